@@ -1,0 +1,9 @@
+pub mod Joins
+pub mod Parts
+pub mod Map
+pub mod Whole
+pub mod Sizes
+pub mod Laws
+pub mod Heads
+pub mod Marks
+pub mod Stays
