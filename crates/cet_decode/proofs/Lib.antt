@@ -1,0 +1,4 @@
+pub mod Pads
+pub mod Answers
+pub mod Widths
+pub mod Falls
