@@ -1,0 +1,14 @@
+pub mod Words
+pub mod Steps
+pub mod Loop
+pub mod Fields
+pub mod Descriptors
+pub mod WholeNotes
+pub mod Types
+pub mod Written
+pub mod JoinLemmas
+pub mod MergeLemmas
+pub mod OneMergeLemmas
+pub mod FaultFronts
+pub mod FaultRows
+pub mod FaultFound
