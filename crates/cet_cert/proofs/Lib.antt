@@ -1,0 +1,8 @@
+pub mod Broken
+pub mod Bytes
+pub mod Cuts
+pub mod Digits
+pub mod Firsts
+pub mod Marks
+pub mod Positions
+pub mod Windows
