@@ -1,0 +1,7 @@
+pub mod Words
+pub mod Reports
+pub mod Checked
+pub mod Pairs
+pub mod StepLemmas
+pub mod TextLemmas
+pub mod Refusals

@@ -1,0 +1,69 @@
+-- What follows for the words and for the files from a report.
+use Rattle.std.proofs.Common.{◌≡◌, ℕ, List, [], ◌∷◌, get_or, codes, inl, Option, Some, None, refl, sym, ap, subst, ◌∙◌, arith}
+use Rattle.std.specs.Prelude.{IsSomeAnd}
+use Rattle.std.proofs.lemmas.List.{append-nil}
+use Rattle.cet_base.specs.Files.{Contents, FileMeets}
+use Rattle.cet_base.specs.Sink.{Gains}
+use Rattle.cet_rules.specs.declared.image.Image.{Image}
+use Rattle.cet_rules.specs.declared.verdict.Verdict.{Verdict}
+use Rattle.cet_rules.specs.declared.verdict.Verdict.TheVariants.{Accepted, Refused}
+use Rattle.cet_rules.specs.First.{KeepsRules}
+use Rattle.cet_rules.specs.Report.{report}
+use Rattle.cet_machine.specs.Run.{NeverMissesEndBranch}
+use Rattle.cet.specs.Command.{Command, CheckRaw, Notes, Asks, AreRefused}
+use Rattle.cet.specs.Answer.{IsReport, IsRawVerdict, IsCertified, IsAnswer, status_of}
+
+-- words have one verb
+one_verb : (words others rest : List (List ℕ)) → words ≡ codes "check" ∷ others → words ≡ codes "notes" ∷ rest → ⊥
+one_verb words others rest first second =
+    let letters : ◌≡◌ {A = ℕ} 99 110 = ap (λ (ws : List (List ℕ)). get_or (get_or ws 0 []) 0 0) (sym first ∙ second) in omega arith
+
+-- words ask for one command at most
+pub asks_one : (words : List (List ℕ)) (c d : Command) → Asks words c → Asks words d → c ≡ d
+asks_one words (CheckRaw file) (CheckRaw other) first second = ap CheckRaw (cc (first.0, second.0))
+asks_one words (CheckRaw file) (Notes files) first second = absurd (one_verb words _ _ first.0 second.0)
+asks_one words (Notes files) (CheckRaw file) first second = absurd (one_verb words _ _ second.0 first.0)
+asks_one words (Notes files) (Notes others) first second = ap Notes (cc (first.0, second.0))
+
+-- words of none of the commands are refused
+pub no_command : (words : List (List ℕ)) → ((file : List ℕ) → ¬ Asks words (CheckRaw file)) → ((files : List (List ℕ)) → ¬ Asks words (Notes files)) → AreRefused words
+no_command words check notes (CheckRaw file) asks = check file asks
+no_command words check notes (Notes files) asks = notes files asks
+
+-- what is true of one content is true of the file that holds it
+pub meets_more : (files : Option Contents) (name : List ℕ) (P Q : List ℕ → Type 0) → ((b : List ℕ) → P b → Q b) → FileMeets files name P → FileMeets files name Q
+meets_more None name P Q more meets = meets
+meets_more (Some contents) name P Q more meets = by_content (contents name) meets
+  where
+    by_content : (held : Option (List ℕ)) → IsSomeAnd held P → IsSomeAnd held Q
+    by_content None absent = absent
+    by_content (Some bytes) there = more bytes there
+
+-- the soundness of the rules, as the proof of `top` takes it
+abbrev pub Soundness : Type 0
+Soundness = (image : Image) → KeepsRules image → NeverMissesEndBranch image
+
+-- a report of status 0 on raw code says that the code is certified
+pub accepted_report : Soundness → (files : Option Contents) (file : List ℕ) (text : List ℕ) → IsReport files (CheckRaw file) 0 text → (text ≡ report Accepted) × FileMeets files file IsCertified
+accepted_report sound files file text (bytes, verdict, meets, is_verdict, status, is_text) = by_verdict verdict is_verdict status is_text
+  where
+    by_verdict : (v : Verdict) → IsRawVerdict bytes v → 0 ≡ status_of v → text ≡ report v → (text ≡ report Accepted) × FileMeets files file IsCertified
+    by_verdict Accepted (image, raw, keeps) e t = (
+      t,
+      meets_more files file (λ held. held ≡ bytes) IsCertified (λ held same. subst IsCertified (sym same) (image, raw, keeps, sound image keeps)) meets,
+    )
+    by_verdict (Refused rule at) is e t = absurd (omega arith)
+
+-- what was not written to is as before
+pub gains_nothing : (old : Option (List ℕ)) → Gains old old []
+gains_nothing None = refl
+gains_nothing (Some bytes) = ap Some (sym (append-nil bytes))
+
+-- a report that the output gained is the answer, where the files told what they hold
+pub report_is_answer : (told : Option Contents) (held : Contents) (asked command : Command) (words : List (List ℕ)) (status : ℕ) (out_before out_after err : Option (List ℕ)) (text : List ℕ)
+    → told ≡ Some held → Asks words asked → Asks words command → Gains out_before out_after text → IsReport told asked status text
+    → (out_text : List ℕ) × (err_text : List ℕ) × IsAnswer held command status out_text err_text × Gains out_before out_after out_text × Gains err err err_text
+report_is_answer told held asked command words status out_before out_after err text tells first second gains is_report =
+    let same = asks_one words asked command first second in
+    let here : IsReport (Some held) command status text = subst (λ (c : Command). IsReport (Some held) c status text) same (subst (λ (t : Option Contents). IsReport t asked status text) tells is_report) in
+    (text, [], inl (here, refl), gains, gains_nothing err)

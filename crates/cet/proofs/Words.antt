@@ -1,0 +1,39 @@
+-- The items of a list, and the texts of words.
+use Rattle.std.proofs.Common.{◌≡◌, ℕ, suc, ◌-◌, ◌+◌, ◌<◌, ◌≤◌, ◌^◌, List, [], ◌∷◌, length, map, get_or, take, drop, All, String, codes, arith, ap, sym, ◌∙◌}
+use Rattle.std.specs.Global.{Global}
+use Rattle.std.specs.String.{string_bytes}
+use Rattle.std.proofs.lemmas.List.{get_or-map, length-map, take_all}
+use Rattle.cet.specs.Command.{Notes, Asks, AreFileNames, texts}
+
+pub three : {A : Type 0} (xs : List A) (a b c : A) → 3 ≤ length xs → length xs < 4 → a ≡ get_or xs 0 a → b ≡ get_or xs 1 b → c ≡ get_or xs 2 c → xs ≡ a ∷ b ∷ c ∷ []
+three [] a b c low high p q r = absurd (omega arith)
+three (x ∷ []) a b c low high p q r = absurd (omega arith)
+three (x ∷ y ∷ []) a b c low high p q r = absurd (omega arith)
+three (x ∷ y ∷ z ∷ []) a b c low high p q r = cc
+three (x ∷ y ∷ z ∷ w ∷ xs) a b c low high p q r = absurd (omega arith)
+
+-- the text of a word that was read by its place
+pub texts_at : (words : List (String Global)) (i : ℕ) (word : String Global) (d : List ℕ) → i < length words → word ≡ get_or words i word → get_or (texts words) i d ≡ string_bytes word
+texts_at words i word d below is = get_or-map string_bytes words i word d below ∙ ap string_bytes (sym is)
+
+pub length-texts : (words : List (String Global)) → length (texts words) ≡ length words
+length-texts words = length-map words string_bytes
+
+pub texts-some : (words : List (String Global)) → 0 < length words → texts words ≡ [] → ⊥
+texts-some [] some none = omega arith
+texts-some (word ∷ words) some none = absurd cc
+
+-- the first word and the others
+pub texts-first : (words : List (String Global)) (first : String Global) → 1 ≤ length words → first ≡ get_or words 0 first → texts words ≡ string_bytes first ∷ texts (take (length words - 1) (drop 1 words))
+texts-first [] first some is = absurd (omega arith)
+texts-first (word ∷ words) first some is =
+    let less : suc (length words) - 1 ≡ length words = omega arith in
+    let rest : take (suc (length words) - 1) words ≡ words = ap (λ (n : ℕ). take n words) less ∙ take_all (length words) words (omega arith) in
+    ap (λ (w : String Global). string_bytes w ∷ texts words) (sym is) ∙ ap (λ (ws : List (String Global)). string_bytes first ∷ texts ws) (sym rest)
+
+-- words with another verb, or with other words than those of files, do not ask for notes
+pub other_verb : (words : List (List ℕ)) (verb : List ℕ) (others files : List (List ℕ)) → words ≡ verb ∷ others → (verb ≡ codes "notes" → ⊥) → Asks words (Notes files) → ⊥
+other_verb words verb others files split other asks = other (cc (split, asks.0))
+
+pub other_files : (words : List (List ℕ)) (verb : List ℕ) (others files : List (List ℕ)) → words ≡ verb ∷ others → (AreFileNames others → ⊥) → Asks words (Notes files) → ⊥
+other_files words verb others files split other asks = let same : files ≡ others = cc (split, asks.0) in other (rw same at asks.1)

@@ -1,0 +1,12 @@
+use Rattle.std.proofs.Common.{◌≡◌, ◌≤◌, take}
+use Rattle.cet.specs.Command.{texts}
+use Rattle.cet.specs.Notes.{HoldsBytes, AllBoth, items_of}
+use Rattle.cet.proofs.notes.read_files.Given as goal
+
+-- the files so far hold the bytes so far
+abbrev pub invariant-loop-name : goal.invariant-loop-name
+invariant-loop-name g l = record {
+  same : g.F.Files.contents l.files ≡ g.F.Files.contents l.initial.files;
+  count : g.F.Files.faults l.initial.files ≤ g.F.Files.faults l.files;
+  holds : AllBoth (HoldsBytes (g.F.Files.contents l.initial.files)) (take l.name-index (texts l.names)) (items_of l.held.items);
+}

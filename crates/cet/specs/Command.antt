@@ -1,0 +1,40 @@
+-- Which words ask for which command. A word is the bytes of its text.
+use Rattle.std.specs.Prelude.{◌≡◌, ◌≢◌, ℕ, ◌<◌, ◌+◌, ◌^◌, List, [], ◌∷◌, length, map, All, Contains, Some, slice_get, String, codes}
+use Rattle.std.specs.String.{string_bytes}
+use Rattle.std.specs.Global.{Global}
+
+pub data Command : Type 0 where
+  -- certify the raw code that the file of this name holds
+  CheckRaw : (file : List ℕ) → Command
+  -- print the property notes that the files of these names hold, and what a link of them may claim
+  Notes : (files : List (List ℕ)) → Command
+
+-- a word that names a file does not begin with `-`
+abbrev pub IsFileName : List ℕ → Type 0
+IsFileName word = slice_get word 0 ≢ Some 45
+
+-- one word at least that names a file, and fewer than 2^32 with the verb
+abbrev pub AreFileNames : List (List ℕ) → Type 0
+AreFileNames words = (words ≢ []) × (length words + 1 < 2 ^ 32) × All IsFileName words
+
+-- the words, the verb first, ask for the command
+abbrev pub Asks : List (List ℕ) → Command → Type 0
+Asks words (CheckRaw file) = (words ≡ codes "check" ∷ codes "--raw" ∷ file ∷ []) × IsFileName file
+Asks words (Notes files) = (words ≡ codes "notes" ∷ files) × AreFileNames files
+
+-- the words ask for no command
+abbrev pub AreRefused : List (List ℕ) → Type 0
+AreRefused words = (command : Command) → ¬ Asks words command
+
+-- the files that the command reads, in the order of the reads
+abbrev pub files_of : Command → List (List ℕ)
+files_of (CheckRaw file) = file ∷ []
+files_of (Notes files) = files
+
+-- the command names this file
+abbrev pub Names : Command → List ℕ → Type 0
+Names command name = Contains (files_of command) name
+
+-- the texts of the words
+abbrev pub texts : List (String Global) → List (List ℕ)
+texts words = map string_bytes words

@@ -1,0 +1,53 @@
+-- The steps of a command that can refuse a file, in their order. The first that does decides.
+use Rattle.std.specs.Prelude.{◌≡◌, ◌≢◌, ℕ, ◌≤◌, ◌⊎◌, List, [], ◌∷◌, ◌++◌, length, map, Option}
+use Rattle.cet_base.specs.declared.reading.TheConstants.{FILE_LIMIT}
+use Rattle.cet_base.specs.Faults.{Rose}
+use Rattle.cet_base.specs.Files.{Contents, FileMeets, IsToldAbsent}
+use Rattle.cet_note.specs.Note.{Note}
+use Rattle.cet.specs.declared.refusal.Unfit.{Unfit}
+use Rattle.cet.specs.declared.refusal.Unfit.TheVariants.{TooLarge}
+use Rattle.cet.specs.Command.{Command, CheckRaw, Notes, files_of}
+use Rattle.cet.specs.Notes.{IsFileNote}
+use Rattle.cet.specs.Unfit.{Misses}
+
+pub data Step : Type 0 where
+  -- the file of this name is read
+  Read : (file : List ℕ) → Step
+  -- its form is looked at
+  Form : (file : List ℕ) → Step
+
+-- every file is read before the form of any
+abbrev pub steps_of : Command → List Step
+steps_of command = map Read (files_of command) ++ map Form (files_of command)
+
+-- a file of the command that holds this is of its form
+abbrev pub HasForm : Command → List ℕ → Type 0
+HasForm (CheckRaw file) held = held ≢ []
+HasForm (Notes files) held = (note : Note) × IsFileNote held note
+
+-- the step refuses nothing, as far as it is told what the files hold
+abbrev pub Passes : Option Contents → Command → Step → Type 0
+Passes files command (Read file) = FileMeets files file (λ held. length held ≤ FILE_LIMIT)
+Passes files command (Form file) = FileMeets files file (HasForm command)
+
+-- the step is one of these, and P holds of each before it
+abbrev pub Reaches : (Step → Type 0) → List Step → Step → Type 0
+Reaches P [] step = ⊥
+Reaches P (first ∷ others) step = (step ≡ first) ⊎ (P first × Reaches P others step)
+
+-- the command comes to this step
+abbrev pub ComesTo : Option Contents → Command → Step → Type 0
+ComesTo files command step = Reaches (Passes files command) (steps_of command) step
+
+-- the step that a file of this name does not pass for this reason
+abbrev pub step_of : Unfit → List ℕ → Step
+step_of TooLarge name = Read name
+step_of why name = Form name
+
+-- the command is refused since the file of this name misses its form so
+abbrev pub IsUnfitBy : Option Contents → Command → List ℕ → Unfit → Type 0
+IsUnfitBy files command name why = ComesTo files command (step_of why name) × FileMeets files name (Misses command why)
+
+-- the command is refused since the file of this name could not be read: the count of faults rose, or the file is absent
+abbrev pub IsUnreadBy : Option Contents → ℕ → ℕ → Command → List ℕ → Type 0
+IsUnreadBy files before after command name = ComesTo files command (Read name) × (Rose before after ⊎ IsToldAbsent files name)

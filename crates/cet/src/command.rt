@@ -1,0 +1,121 @@
+//! The command that the words ask for.
+
+ghost use Rattle.std.specs.Prelude.{◌≡◌, ◌↔◌, ℕ, List, All, IsTrue, IfSome, IfNone, IfOk, IfErr};
+ghost use Rattle.cet_base.specs.Sink.{Gains};
+ghost use Rattle.cet.specs.Command.{CheckRaw, Notes, Asks, AreRefused, IsFileName, AreFileNames, texts};
+ghost use Rattle.cet.specs.Answer.{IsReport};
+ghost use Rattle.cet.specs.Refused.{HasCause};
+
+use crate::check_raw::check_raw;
+use crate::notes::notes;
+use crate::refusal::Refusal;
+use cet_base::{Files, Sink};
+use std::alloc::Global;
+
+/// A command, with the words that name its files.
+pub enum Command<'a> {
+    /// `check --raw FILE`.
+    CheckRaw(&'a str),
+    /// `notes FILE...`.
+    Notes(&'a [String]),
+}
+
+fn is_file_name(word: &str) -> bool
+    ensures { IsTrue result ↔ IsFileName word.now }
+{
+    !matches!(word.as_bytes(), [b'-', ..])
+}
+
+// Whether each of the words names a file.
+fn each_names_a_file(words: &[String]) -> bool
+    ensures { IsTrue result ↔ All IsFileName (texts words.now) }
+{
+    for word in words {
+        if !is_file_name(word.as_str()) {
+            return false;
+        }
+    }
+    true
+}
+
+// Whether these are the words of `FILE...`.
+fn are_file_names(words: &[String]) -> bool
+    ensures { IsTrue result ↔ AreFileNames (texts words.now) }
+{
+    // With the verb there are fewer than 2^32.
+    !words.is_empty() && words.len() < 0xffff_ffff && each_names_a_file(words)
+}
+
+// The file of `check --raw FILE`.
+fn check_raw_file(words: &[String]) -> Option<&str>
+    ensures found { IfSome result (λ file. Asks (texts words.now) (CheckRaw file.now)) }
+    ensures none { IfNone result ((file : List ℕ) → ¬ Asks (texts words.now) (CheckRaw file)) }
+{
+    match words {
+        [verb, option, file]
+            if verb.as_str() == "check"
+                && option.as_str() == "--raw"
+                && is_file_name(file.as_str()) => Some(file.as_str()),
+        _ => None,
+    }
+}
+
+// The files of `notes FILE...`.
+fn notes_files(words: &[String]) -> Option<&[String]>
+    ensures found { IfSome result (λ files. Asks (texts words.now) (Notes (texts files.now))) }
+    ensures none { IfNone result ((files : List (List ℕ)) → ¬ Asks (texts words.now) (Notes files)) }
+{
+    let [verb, files @ ..] = words else {
+        return None;
+    };
+    if verb.as_str() == "notes" && are_file_names(files) {
+        Some(files)
+    } else {
+        None
+    }
+}
+
+impl<'a> Command<'a> {
+    ghost use Rattle.cet.specs.Named.{named};
+
+    #[tactic(auto, using(crate::proofs::Reports::no_command))]
+    /// The command of these words, the verb first. None exactly where they are no command.
+    pub fn read(words: &'a [String]) -> Option<Command<'a>>
+        ensures found { IfSome result (λ command. Asks (texts words.now) (named command)) }
+        ensures refused { IfNone result (AreRefused (texts words.now)) }
+    {
+        if let Some(file) = check_raw_file(words) {
+            return Some(Command::CheckRaw(file));
+        }
+        match notes_files(words) {
+            Some(files) => Some(Command::Notes(files)),
+            None => None,
+        }
+    }
+
+    /// Carries the command out: its report goes to the output.
+    pub fn run<F: Files, O: Sink>(
+        self,
+        alloc: Global,
+        files: &mut F,
+        out: &mut O,
+    ) -> Result<u8, Refusal<'a>>
+        ensures contents { F.contents files.new ≡ F.contents files.old }
+        ensures reported { IfOk result (λ status. (text : List ℕ) × Gains (O.bytes out.old) (O.bytes out.new) text
+            × IsReport (F.contents files.old) (named self.entry) status text) }
+        ensures refused { IfErr result (HasCause (record {
+          files = F.contents files.old;
+          faults_before = F.faults files.old;
+          faults_after = F.faults files.new;
+          out_before = O.bytes out.old;
+          out_after = O.bytes out.new;
+          out_faults_before = O.faults out.old;
+          out_faults_after = O.faults out.new;
+        }) (named self.entry)) }
+    {
+        match self {
+            Command::CheckRaw(file) => check_raw(alloc, file, files, out),
+            Command::Notes(names) => notes(alloc, names, files, out),
+        }
+    }
+}

@@ -1,0 +1,144 @@
+//! `notes FILE...`: the property notes of files, and their merge.
+
+ghost use Rattle.std.specs.Prelude.{◌≡◌, ◌≤◌, ℕ, List, Option, length, map, Vec, IfOk, IfErr};
+ghost use Rattle.cet_base.specs.Faults.{Rose};
+ghost use Rattle.cet_base.specs.Files.{Contents, FileMeets};
+ghost use Rattle.cet_base.specs.Sink.{Gains};
+ghost use Rattle.cet.specs.Command.{Command, Notes, texts};
+ghost use Rattle.cet.specs.Notes.{IsFileNote, HoldsBytes, AllBoth, items_of};
+ghost use Rattle.cet.specs.Steps.{Read, Form};
+ghost use Rattle.cet.specs.Answer.{IsReport};
+ghost use Rattle.cet.specs.Refused.{HasCause, IsAtStep, IsOfFiles};
+
+use crate::notes_text::notes_report;
+use crate::refusal::{Refusal, Unfit};
+use crate::status;
+use cet_base::{Files, ReadError, Sink, read_all, write_all};
+use cet_note::{NoteError, Props, merge, read_note};
+use std::alloc::Global;
+
+// The bytes of a file.
+fn read_file<'a, F: Files>(
+    alloc: Global,
+    name: &'a str,
+    files: &mut F,
+) -> Result<Vec<u8>, Refusal<'a>>
+    ensures contents { F.contents files.new ≡ F.contents files.old }
+    ensures faults { F.faults files.old ≤ F.faults files.new }
+    ensures held { IfOk result (λ bytes. HoldsBytes (F.contents files.old) name.now bytes.items) }
+    ensures refused { IfErr result (λ refusal. (command : Command)
+        → IsAtStep (F.contents files.old) (F.faults files.old) (F.faults files.new) command (Read name.now) refusal) }
+{
+    match read_all(alloc, files, name) {
+        Ok(bytes) => Ok(bytes),
+        Err(ReadError::Failed) => Err(Refusal::Unread(name)),
+        Err(ReadError::TooLarge) => Err(Refusal::Unfit(name, Unfit::TooLarge)),
+        Err(ReadError::NoMemory) => Err(Refusal::NoMemory),
+    }
+}
+
+// The bytes of each file, in the order of the names.
+fn read_files<'a, F: Files>(
+    alloc: Global,
+    names: &'a [String],
+    files: &mut F,
+) -> Result<Vec<Vec<u8>>, Refusal<'a>>
+    ensures contents { F.contents files.new ≡ F.contents files.old }
+    ensures faults { F.faults files.old ≤ F.faults files.new }
+    ensures held { IfOk result (λ held. AllBoth (HoldsBytes (F.contents files.old)) (texts names.now) (items_of held.items)) }
+    ensures refused { IfErr result (IsOfFiles (F.contents files.old) (F.faults files.old) (F.faults files.new) (Notes (texts names.now))) }
+{
+    let mut held = Vec::new(alloc);
+    for name in names {
+        let bytes = read_file(alloc, name.as_str(), files)?;
+        if held.push(bytes).is_err() {
+            return Err(Refusal::NoMemory);
+        }
+    }
+    Ok(held)
+}
+
+// The note that the bytes of the file `name` are.
+fn read_form<'a>(alloc: Global, name: &'a str, bytes: &[u8]) -> Result<Props, Refusal<'a>>
+    ensures note { IfOk result (IsFileNote bytes.now) }
+    ensures refused { IfErr result (λ refusal. (told : Option Contents) (before after : ℕ) (names : List (List ℕ))
+        → FileMeets told name.now (λ held. held ≡ bytes.now) → IsAtStep told before after (Notes names) (Form name.now) refusal) }
+{
+    if bytes.starts_with(b"\x7fELF") {
+        return Err(Refusal::Unfit(name, Unfit::Elf));
+    }
+    match read_note(alloc, bytes) {
+        Ok(note) => Ok(note),
+        Err(NoteError::NoMemory) => Err(Refusal::NoMemory),
+        Err(fault) => Err(Refusal::Unfit(name, Unfit::NoNote(fault))),
+    }
+}
+
+// The note of each file, from the bytes that it holds.
+fn read_forms<'a>(
+    alloc: Global,
+    names: &'a [String],
+    held: &[Vec<u8>],
+) -> Result<Vec<Props>, Refusal<'a>>
+    requires { length names.now ≡ length held.now }
+    ensures notes { IfOk result (λ notes. AllBoth IsFileNote (items_of held.now) notes.items) }
+    ensures refused { IfErr result (λ refusal. (told : Option Contents) (before after : ℕ)
+        → AllBoth (HoldsBytes told) (texts names.now) (items_of held.now) → IsOfFiles told before after (Notes (texts names.now)) refusal) }
+{
+    let mut notes = Vec::new(alloc);
+    for (i, name) in names.iter().enumerate() {
+        let note = read_form(alloc, name.as_str(), &held[i])?;
+        if notes.push(note).is_err() {
+            return Err(Refusal::NoMemory);
+        }
+    }
+    Ok(notes)
+}
+
+// The whole report.
+fn report<'a, F: Files>(
+    alloc: Global,
+    names: &'a [String],
+    files: &mut F,
+) -> Result<Vec<u8>, Refusal<'a>>
+    ensures contents { F.contents files.new ≡ F.contents files.old }
+    ensures reported { IfOk result (λ text. IsReport (F.contents files.old) (Notes (texts names.now)) 0 text.items) }
+    ensures refused { IfErr result (IsOfFiles (F.contents files.old) (F.faults files.old) (F.faults files.new) (Notes (texts names.now))) }
+{
+    let held = read_files(alloc, names, files)?;
+    let notes = read_forms(alloc, names, &held)?;
+    let Ok(merged) = merge(alloc, &notes) else {
+        return Err(Refusal::NoMemory);
+    };
+    let Ok(text) = notes_report(alloc, names, &notes, &merged) else {
+        return Err(Refusal::NoMemory);
+    };
+    Ok(text)
+}
+
+/// Reads the files, and writes the note of each and their merge to the output.
+pub fn notes<'a, F: Files, O: Sink>(
+    alloc: Global,
+    names: &'a [String],
+    files: &mut F,
+    out: &mut O,
+) -> Result<u8, Refusal<'a>>
+    ensures contents { F.contents files.new ≡ F.contents files.old }
+    ensures reported { IfOk result (λ status. (text : List ℕ) × Gains (O.bytes out.old) (O.bytes out.new) text
+        × IsReport (F.contents files.old) (Notes (texts names.now)) status text) }
+    ensures refused { IfErr result (HasCause (record {
+      files = F.contents files.old;
+      faults_before = F.faults files.old;
+      faults_after = F.faults files.new;
+      out_before = O.bytes out.old;
+      out_after = O.bytes out.new;
+      out_faults_before = O.faults out.old;
+      out_faults_after = O.faults out.new;
+    }) (Notes (texts names.now))) }
+{
+    let text = report(alloc, names, files)?;
+    if write_all(out, &text).is_err() {
+        return Err(Refusal::Unwritten);
+    }
+    Ok(status::DONE)
+}

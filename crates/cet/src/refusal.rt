@@ -1,0 +1,144 @@
+//! Why a command was refused, and how that is told on standard error.
+
+ghost use Rattle.std.specs.Prelude.{◌≡◌, IfOk};
+ghost use Rattle.std.specs.Fmt.{decimal};
+ghost use Rattle.cet.specs.Answer.{Says};
+ghost use Rattle.cet.specs.Text.{file_line as line_of_file, bad_line};
+ghost use Rattle.cet.specs.Unfit.{reason, place as place_of, fault_word as word_of, fault_place as offset_of};
+
+use crate::status;
+use cet_base::{NoMemory, Sink, write_all};
+use cet_note::NoteError;
+use std::alloc::Global;
+
+/// How a file misses its form.
+#[derive(Clone, Copy, Debug, PartialEq, Eq)]
+pub enum Unfit {
+    /// It has no byte.
+    Empty,
+    /// It is longer than is read.
+    TooLarge,
+    /// It begins as an ELF file does, where a property note is asked for.
+    Elf,
+    /// It is no property note, for this fault.
+    NoNote(NoteError),
+}
+
+// The word for the fault of a note.
+fn fault_word(fault: NoteError) -> &'static str
+    ensures { result.now ≡ word_of fault }
+{
+    match fault {
+        NoteError::Cut { .. } => "cut",
+        NoteError::Name { .. } => "name",
+        NoteError::Kind { .. } => "kind",
+        NoteError::Size { .. } => "size",
+        NoteError::Order { .. } => "order",
+        NoteError::Twice { .. } => "twice",
+        NoteError::NoMemory => "nomemory",
+    }
+}
+
+// The offset of the field that has it.
+fn fault_place(fault: NoteError) -> u64
+    ensures { result ≡ offset_of fault }
+{
+    match fault {
+        NoteError::Cut { at }
+        | NoteError::Name { at }
+        | NoteError::Kind { at }
+        | NoteError::Size { at }
+        | NoteError::Order { at }
+        | NoteError::Twice { at } => at,
+        NoteError::NoMemory => 0,
+    }
+}
+
+impl Unfit {
+    fn word(self) -> &'static str
+        ensures { result.now ≡ reason self }
+    {
+        match self {
+            Unfit::Empty => "empty",
+            Unfit::TooLarge => "toolarge",
+            Unfit::Elf => "elf",
+            Unfit::NoNote(fault) => fault_word(fault),
+        }
+    }
+
+    fn place(self) -> u64
+        ensures { result ≡ place_of self }
+    {
+        match self {
+            Unfit::NoNote(fault) => fault_place(fault),
+            _ => 0,
+        }
+    }
+}
+
+/// Why a command was refused.
+#[derive(Drop)]
+pub enum Refusal<'a> {
+    /// The file of this name could not be read.
+    Unread(&'a str),
+    /// The file of this name is not of its form.
+    Unfit(&'a str, Unfit),
+    /// There was no memory; nothing was written.
+    NoMemory,
+    /// The output failed.
+    Unwritten,
+}
+
+/// Writes the text, as far as the output takes it.
+pub fn say<E: Sink>(err: &mut E, text: &[u8])
+    ensures said { Says (E.bytes err.old) (E.bytes err.new) (E.faults err.old) (E.faults err.new) text.now }
+{
+    let _ = write_all(err, text);
+}
+
+// The line `cet: file NAME`.
+fn file_line(alloc: Global, name: &str) -> Result<Vec<u8>, NoMemory>
+    ensures { IfOk result (λ text. text.items ≡ line_of_file name.now) }
+{
+    let mut text = Vec::from_slice(alloc, b"cet: file ")?;
+    text.extend_from_slice(name.as_bytes())?;
+    text.push(b'\n')?;
+    Ok(text)
+}
+
+// The line `cet: bad NAME at N: WHY`.
+fn unfit_line(alloc: Global, name: &str, why: Unfit) -> Result<Vec<u8>, NoMemory>
+    ensures { IfOk result (λ text. text.items ≡ bad_line name.now (decimal (place_of why)) (reason why)) }
+{
+    let mut text = Vec::from_slice(alloc, b"cet: bad ")?;
+    text.extend_from_slice(name.as_bytes())?;
+    text.extend_from_slice(b" at ")?;
+    text.extend_from_slice(why.place().to_string(alloc)?.as_bytes())?;
+    text.extend_from_slice(b": ")?;
+    text.extend_from_slice(why.word().as_bytes())?;
+    text.push(b'\n')?;
+    Ok(text)
+}
+
+impl Refusal<'_> {
+    ghost use Rattle.cet.specs.Refused.{Tells};
+
+    /// Tells the refusal on standard error, and answers its status.
+    pub fn tell<E: Sink>(&self, alloc: Global, err: &mut E) -> u8
+        ensures told { Tells self.now result (E.bytes err.old) (E.bytes err.new) (E.faults err.old) (E.faults err.new) }
+    {
+        let (line, status) = match self {
+            Refusal::Unread(name) => (file_line(alloc, name), status::UNREAD),
+            Refusal::Unfit(name, why) => (unfit_line(alloc, name, *why), status::UNFIT),
+            Refusal::NoMemory => return status::NO_MEMORY,
+            Refusal::Unwritten => return status::UNWRITTEN,
+        };
+        match line {
+            Ok(text) => {
+                say(err, &text);
+                status
+            }
+            Err(NoMemory) => status::NO_MEMORY,
+        }
+    }
+}

@@ -1,0 +1,22 @@
+//! The statuses that the program ends with.
+
+/// The work was done; `check` accepted.
+pub const DONE: u8 = 0;
+
+/// `check` names a broken rule.
+pub const REFUSED: u8 = 1;
+
+/// The words are no command.
+pub const WORDS: u8 = 2;
+
+/// A file could not be read.
+pub const UNREAD: u8 = 3;
+
+/// There was no memory; nothing was written.
+pub const NO_MEMORY: u8 = 4;
+
+/// The output failed.
+pub const UNWRITTEN: u8 = 5;
+
+/// A file is not of its form, or passes a limit.
+pub const UNFIT: u8 = 6;

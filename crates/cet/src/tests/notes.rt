@@ -1,0 +1,207 @@
+//! `notes`, over files and outputs in memory.
+use super::*;
+use std::test::Fail;
+
+// What gcc writes for an object compiled with -fcf-protection=full: one property 0xc0000002 with the bits 3.
+const FULL: &[u8] = b"\x04\0\0\0\x10\0\0\0\x05\0\0\0GNU\0\x02\0\0\xc0\x04\0\0\0\x03\0\0\0\0\0\0\0";
+
+// The same with the bits 1, and its first 27 bytes.
+const LESS: &[u8] = b"\x04\0\0\0\x10\0\0\0\x05\0\0\0GNU\0\x02\0\0\xc0\x04\0\0\0\x01\0\0\0\0\0\0\0";
+
+const CUT: &[u8] = b"\x04\0\0\0\x10\0\0\0\x05\0\0\0GNU\0\x02\0\0\xc0\x04\0\0\0\x01\0\0";
+
+// Two properties: the word 0x10 of type 0xc0008002, and the word 0x89abcdef of type 0xc0010000.
+const TWO: &[u8] =
+    b"\x04\0\0\0\x20\0\0\0\x05\0\0\0GNU\0\x02\x80\0\xc0\x04\0\0\0\x10\0\0\0\0\0\0\0\0\0\x01\xc0\x04\0\0\0\xef\xcd\xab\x89\0\0\0\0";
+
+const A: &[&str] = &["notes", "a"];
+
+const AB: &[&str] = &["notes", "a", "b"];
+
+const ABC: &[&str] = &["notes", "a", "b", "c"];
+
+// The columns: the contents of `a`, `b` and `c`, the words, the output, the line on standard error, the status.
+#[test]
+fn reports(rt: HostRuntime) -> Result<(), Fail> {
+    let rows: [(&[u8], &[u8], &[u8], &[&str], &str, &str, u8); 9] = [
+        (
+            FULL,
+            b"",
+            b"",
+            A,
+            "a: 0xc0000002=0x00000003\nmerged: 0xc0000002=0x00000003\n",
+            "",
+            0,
+        ),
+        (
+            FULL,
+            b"",
+            b"",
+            AB,
+            "a: 0xc0000002=0x00000003\nb: none\nmerged: none\n",
+            "",
+            0,
+        ),
+        (
+            FULL,
+            FULL,
+            LESS,
+            ABC,
+            "a: 0xc0000002=0x00000003\nb: 0xc0000002=0x00000003\nc: 0xc0000002=0x00000001\nmerged: 0xc0000002=0x00000001\n",
+            "",
+            0,
+        ),
+        (
+            TWO,
+            b"",
+            b"",
+            A,
+            "a: 0xc0008002=0x00000010 0xc0010000=0x89abcdef\nmerged: 0xc0008002=0x00000010 0xc0010000=0x89abcdef\n",
+            "",
+            0,
+        ),
+        // Of the OR range what some file has, of the OR_AND range what every file has.
+        (
+            TWO,
+            b"",
+            b"",
+            AB,
+            "a: 0xc0008002=0x00000010 0xc0010000=0x89abcdef\nb: none\nmerged: 0xc0008002=0x00000010\n",
+            "",
+            0,
+        ),
+        // An ELF file, and one that only begins like one.
+        (
+            b"\x7fELF\x02\x01",
+            b"",
+            b"",
+            A,
+            "",
+            "cet: bad a at 0: elf\n",
+            6,
+        ),
+        (b"\x7fEL", b"", b"", A, "", "cet: bad a at 0: cut\n", 6),
+        // The first file in the order of the words counts.
+        (FULL, CUT, b"\x7fELF", ABC, "", "cet: bad b at 24: cut\n", 6),
+        (b"", b"\x7fELF", CUT, ABC, "", "cet: bad b at 0: elf\n", 6),
+    ];
+    for (a, b, c, words, report, line, status) in rows {
+        let mut files = MemFiles::new(rt.alloc());
+        files.put("a", a)?;
+        files.put("b", b)?;
+        files.put("c", c)?;
+        let answer = run(rt.alloc(), words, &mut files, 100, 500)?;
+        assert_eq!(rt; answer.out.bytes(), report.as_bytes());
+        assert_eq!(rt; answer.err.bytes(), line.as_bytes());
+        assert_eq!(rt; answer.status, status);
+    }
+    Ok(())
+}
+
+// The columns: a note with a fault at each of its fields, and the line on standard error.
+#[test]
+fn faults(rt: HostRuntime) -> Result<(), Fail> {
+    let rows: [(&[u8], &str); 8] = [
+        (
+            b"\x05\0\0\0\x10\0\0\0\x05\0\0\0GNU\0\x02\0\0\xc0\x04\0\0\0\x03\0\0\0\0\0\0\0",
+            "cet: bad a at 0: name\n",
+        ),
+        (
+            b"\x04\0\0\0\x0c\0\0\0\x05\0\0\0GNU\0\x02\0\0\xc0\x04\0\0\0\x03\0\0\0\0\0\0\0",
+            "cet: bad a at 4: size\n",
+        ),
+        (
+            b"\x04\0\0\0\x10\0\0\0\x01\0\0\0GNU\0\x02\0\0\xc0\x04\0\0\0\x03\0\0\0\0\0\0\0",
+            "cet: bad a at 8: kind\n",
+        ),
+        (
+            b"\x04\0\0\0\x10\0\0\0\x05\0\0\0HNU\0\x02\0\0\xc0\x04\0\0\0\x03\0\0\0\0\0\0\0",
+            "cet: bad a at 12: name\n",
+        ),
+        (
+            b"\x04\0\0\0\x10\0\0\0\x05\0\0\0GNU\0\x02\0\0\xc0\x08\0\0\0\x03\0\0\0\0\0\0\0",
+            "cet: bad a at 20: size\n",
+        ),
+        (
+            b"\x04\0\0\0\x18\0\0\0\x05\0\0\0GNU\0\x02\0\0\xc0\x04\0\0\0\x03\0\0\0\0\0\0\0",
+            "cet: bad a at 32: cut\n",
+        ),
+        (
+            b"\x04\0\0\0\x20\0\0\0\x05\0\0\0GNU\0\x02\x80\0\xc0\x04\0\0\0\x10\0\0\0\0\0\0\0\x01\x80\0\xc0\x04\0\0\0\x01\0\0\0\0\0\0\0",
+            "cet: bad a at 32: order\n",
+        ),
+        (
+            b"\x04\0\0\0\x20\0\0\0\x05\0\0\0GNU\0\x02\x80\0\xc0\x04\0\0\0\x10\0\0\0\0\0\0\0\x02\x80\0\xc0\x04\0\0\0\x01\0\0\0\0\0\0\0",
+            "cet: bad a at 32: twice\n",
+        ),
+    ];
+    for (bytes, line) in rows {
+        let mut files = holding(rt.alloc(), bytes)?;
+        let answer = run(rt.alloc(), A, &mut files, 100, 100)?;
+        assert_eq!(rt; answer.err.bytes(), line.as_bytes());
+        assert_eq!(rt; answer.out.bytes(), b"".as_slice());
+        assert_eq!(rt; answer.status, 6);
+    }
+    Ok(())
+}
+
+// Every file is read before the form of any: an absent file and one over the limit come before a file that is no note.
+#[test]
+fn reads_come_first(rt: HostRuntime) -> Result<(), Fail> {
+    let longest = vec![in rt.alloc(); 0u8; 16_777_217]?;
+    let mut files = holding(rt.alloc(), b"\x7fELF")?;
+    files.put("long", &longest)?;
+    let rows: [(&[&str], &str, u8); 5] = [
+        (&["notes", "a", "b"], "cet: file b\n", 3),
+        (&["notes", "b", "long"], "cet: file b\n", 3),
+        (
+            &["notes", "a", "long", "b"],
+            "cet: bad long at 0: toolarge\n",
+            6,
+        ),
+        (&["notes"], "cet: words\n", 2),
+        (&["notes", "a", "-b"], "cet: words\n", 2),
+    ];
+    for (words, line, status) in rows {
+        let answer = run(rt.alloc(), words, &mut files, 100, 100)?;
+        assert_eq!(rt; answer.err.bytes(), line.as_bytes());
+        assert_eq!(rt; answer.out.bytes(), b"".as_slice());
+        assert_eq!(rt; answer.status, status);
+    }
+    Ok(())
+}
+
+// Sixty-four files: as many lines and one more.
+#[test]
+fn many_files(rt: HostRuntime) -> Result<(), Fail> {
+    let mut words = Vec::new(rt.alloc());
+    words.push("notes")?;
+    for _ in 0..64 {
+        words.push("a")?;
+    }
+    let mut files = holding(rt.alloc(), FULL)?;
+    let answer = run(rt.alloc(), &words, &mut files, 1000, 2000)?;
+    assert_eq!(rt; answer.status, 0);
+    // `a: 0xc0000002=0x00000003` and `merged: 0xc0000002=0x00000003`, with their line feeds.
+    assert_eq!(rt; answer.out.bytes().len(), 64 * 25 + 30);
+    Ok(())
+}
+
+// An output that takes a few bytes at a time gains the whole report; one that is full before its end fails.
+#[test]
+fn full_outputs(rt: HostRuntime) -> Result<(), Fail> {
+    for (most, room, out, status) in [
+        (3, 100, "a: none\nmerged: none\n", 0),
+        (100, 21, "a: none\nmerged: none\n", 0),
+        (100, 20, "a: none\nmerged: none", 5),
+        (4, 9, "a: none\nm", 5),
+        (1, 0, "", 5),
+    ] {
+        let mut files = holding(rt.alloc(), b"")?;
+        let answer = run(rt.alloc(), A, &mut files, most, room)?;
+        assert_eq!(rt; answer.status, status);
+        assert_eq!(rt; answer.out.bytes(), out.as_bytes());
+        assert_eq!(rt; answer.err.bytes(), b"".as_slice());
+    }
+    Ok(())
+}
