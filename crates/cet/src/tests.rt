@@ -1,5 +1,5 @@
 //! The program over files and outputs in memory. Expected values follow from the written rules.
-ghost use Rattle.std.specs.Prelude.{◌≢◌};
+ghost use Rattle.std.specs.Prelude.{◌≢◌, None};
 
 use crate::top;
 use cet_base::{Failed, Files, MemFiles, MemSink, NoMemory, Sink};
@@ -230,5 +230,39 @@ fn outputs(rt: HostRuntime) -> Result<(), Fail> {
         assert_eq!(rt; answer.out.bytes(), out.as_bytes());
         assert_eq!(rt; answer.err.bytes(), b"".as_slice());
     }
+    Ok(())
+}
+
+/// One file of any name, of which a read gives one byte at most.
+#[derive(Drop)]
+struct Drops<'a> {
+    bytes: &'a [u8],
+}
+
+impl Files for Drops<'_> {
+    ghost contents = { λ _. None };
+
+    ghost faults = { λ _. 0 };
+
+    fn read(&mut self, _name: &str, at: u64, buf: &mut [u8]) -> Result<usize, Failed> {
+        match self.bytes.get(at as usize) {
+            Some(byte) if !buf.is_empty() => {
+                buf[0] = *byte;
+                Ok(1)
+            }
+            _ => Ok(0),
+        }
+    }
+}
+
+// A file that comes a byte at a time is read whole.
+#[test]
+fn reads_a_byte_at_a_time(rt: HostRuntime) -> Result<(), Fail> {
+    let mut files = Drops {
+        bytes: b"\x90\x90\xeb\x00\x0f\x0b",
+    };
+    let answer = run(rt.alloc(), &CHECK, &mut files, 100, 100)?;
+    assert_eq!(rt; answer.status, 0);
+    assert_eq!(rt; answer.out.bytes(), b"accepted\n".as_slice());
     Ok(())
 }
