@@ -8,9 +8,9 @@ Strings that are Short or Outside are not compared: objdump knows more instructi
 """
 import random
 import shutil
-import subprocess
 import sys
-import tempfile
+
+import objdump
 
 ONE = list(range(0x00, 0x40)) + list(range(0x50, 0x60)) + [0x63, 0x68, 0x69, 0x6A, 0x6B] + list(range(0x70, 0x80)) + [
     0x80, 0x81, 0x83, *range(0x84, 0x8C), 0x8D, 0x90, 0x98, 0x99, 0xA8, 0xA9, *range(0xB0, 0xC0), 0xC0, 0xC1, 0xC3, 0xC6,
@@ -60,16 +60,7 @@ def check(lines, answers):
                 counts[word] += 1
             else:
                 forms.append((bytes.fromhex(line.strip())[:int(word)], answer.strip()))
-    with tempfile.NamedTemporaryFile() as code:
-        code.write(b"".join(form for form, _ in forms))
-        code.flush()
-        listing = subprocess.run(["objdump", "-D", "-b", "binary", "-m", "i386:x86-64", "-M", "intel", "--insn-width=16", code.name],
-                                 capture_output=True, text=True, check=True).stdout
-    starts = {}
-    for row in listing.splitlines():
-        parts = row.split("\t")
-        if len(parts) >= 2 and parts[0].strip().endswith(":"):
-            starts[int(parts[0].strip()[:-1], 16)] = (len(parts[1].split()), parts[2] if len(parts) > 2 else "")
+    starts = objdump.rows(form for form, _ in forms)
     at = 0
     bad = 0
     for form, answer in forms:

@@ -6,9 +6,9 @@ Usage: compare_values.py lines answers     lines as compare_lengths.py makes the
 """
 import re
 import shutil
-import subprocess
 import sys
-import tempfile
+
+import objdump
 
 NAMES = ["rax", "rcx", "rdx", "rbx", "rsp", "rbp", "rsi", "rdi"] + [f"r{n}" for n in range(8, 16)]
 WORDS = ["eax", "ecx", "edx", "ebx", "esp", "ebp", "esi", "edi"] + [f"r{n}d" for n in range(8, 16)]
@@ -195,23 +195,14 @@ def main(lines, answers):
             word, _, value = answer.strip().partition(" ")
             if word not in ("short", "outside"):
                 forms.append((bytes.fromhex(line.strip())[:int(word)], value))
-    with tempfile.NamedTemporaryFile() as code:
-        code.write(b"".join(form for form, _ in forms))
-        code.flush()
-        listing = subprocess.run(["objdump", "-D", "-b", "binary", "-m", "i386:x86-64", "-M", "intel", "--insn-width=16", code.name],
-                                 capture_output=True, text=True, check=True).stdout
-    texts = {}
-    for row in listing.splitlines():
-        parts = row.split("\t")
-        if len(parts) > 2 and parts[0].strip().endswith(":"):
-            texts[int(parts[0].strip()[:-1], 16)] = parts[2].strip()
+    texts = objdump.rows(form for form, _ in forms)
     at = bad = 0
     names = {}
     for form, text in forms:
         value = parse(text)
         names[value[0]] = names.get(value[0], 0) + 1
         want = wanted(value, at + len(form))
-        got = texts.get(at, "nothing begins here")
+        _, got = texts.get(at, (0, "nothing begins here"))
         at += len(form)
         try:
             same = ("nop" in got or got in ("pause", "xchg   ax,ax")) if want is None else want == printed(got)
