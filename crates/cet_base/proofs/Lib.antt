@@ -1,3 +1,4 @@
+pub mod Digits
 pub mod ReadLemmas
 pub mod SinkLemmas
 pub mod SpanLemmas

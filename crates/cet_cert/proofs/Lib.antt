@@ -1,7 +1,6 @@
 pub mod Broken
 pub mod Bytes
 pub mod Cuts
-pub mod Digits
 pub mod Firsts
 pub mod Marks
 pub mod Positions

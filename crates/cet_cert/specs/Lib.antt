@@ -3,5 +3,4 @@ pub use Rattle.cet_rules.specs.Raw
 pub use Rattle.cet_rules.specs.Report
 pub mod Breach
 pub mod Fetch
-pub mod Line
 pub mod Survey

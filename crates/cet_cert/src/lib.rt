@@ -6,7 +6,6 @@
 mod breach;
 mod certifier;
 mod fetch;
-mod line;
 mod pieces;
 mod raw;
 mod report;
@@ -19,7 +18,7 @@ pub use cet_rules::{
 };
 pub use fetch::{byte_at, instruction_at};
 pub use pieces::{piece_at, prologue_end};
-pub use raw::{ImageError, raw_image};
+pub use raw::{ImageError, RAW_START, raw_image};
 pub use report::write_report;
 
 #[cfg(test)]

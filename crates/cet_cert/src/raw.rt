@@ -17,8 +17,8 @@ pub enum ImageError {
     NoMemory,
 }
 
-/// Where raw code starts.
-const RAW_START: u64 = 0x401000;
+/// Where raw code starts: the address of its first byte.
+pub const RAW_START: u64 = 0x401000;
 
 /// The most bytes of a segment.
 const SEGMENT_LIMIT: u64 = 16_777_216;
