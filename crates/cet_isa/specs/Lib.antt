@@ -5,4 +5,7 @@ pub mod OpcodeMap
 pub mod PrefixedMap
 pub mod Form
 pub mod Decoded
+pub mod Canonical
 pub mod Law
+pub mod Text
+pub mod TextLaw

@@ -1,6 +1,7 @@
-//! Laws of the forms, each the contract of a function that does nothing.
+//! Laws of the forms and their texts, each the contract of a function that does nothing.
 
-ghost use Rattle.cet_isa.specs.Law.{FormLength, OneForm, FormIsDecoded, DecodedIsForm, ShortIsProperPrefix, OutsideStays, OneHead};
+ghost use Rattle.cet_isa.specs.Law.{FormLength, OneForm, FormIsDecoded, DecodedIsForm, ShortIsProperPrefix, OutsideStays, OneHead, CanonicalIsForm, FormHasCanonical, CanonicalIsShortest};
+ghost use Rattle.cet_isa.specs.TextLaw.{OneText};
 
 /// A form has 1 to 15 bytes.
 pub fn form_length()
@@ -36,4 +37,24 @@ pub fn outside_stays()
 /// At most one form, of one value and one length, stands at the head of a list.
 pub fn one_head()
     ensures { OneHead }
+{}
+
+/// The canonical form of a value is a form of it.
+pub fn canonical_is_form()
+    ensures { CanonicalIsForm }
+{}
+
+/// A value that has a form has a canonical form; where there is none, no list is a form of the value.
+pub fn form_has_canonical()
+    ensures { FormHasCanonical }
+{}
+
+/// No form of a value is shorter than its canonical form, but for the opcodes of AL, EAX and RAX with a constant.
+pub fn canonical_is_shortest()
+    ensures { CanonicalIsShortest }
+{}
+
+/// Of the values that have a form, no two have one text.
+pub fn one_text()
+    ensures { OneText }
 {}

@@ -1,6 +1,7 @@
-//! The 46 instruction values, the whole table of their forms as bytes, and the faults that end a thread.
-//! The definitions `Form` (bytes of a value, by the opcode maps) and `decoded` (the form at the head of a list) stand in `specs/`.
-//! The laws of `law` say that they agree, and that no form begins another.
+//! The 46 instruction values, the whole table of their forms as bytes, their texts, and the faults that end a thread.
+//! The definitions `Form` (bytes of a value, by the opcode maps), `decoded` (the form at the head of a list), `canonical` (the form that an
+//! encoder writes) and `text` stand in `specs/`. The laws of `law` say that they agree, that no form begins another and that no two values
+//! have one text. `write_text` writes `text`.
 #![tactic(auto)]
 
 mod decode_error;
@@ -10,6 +11,7 @@ pub mod law;
 mod operand;
 mod operation;
 mod register;
+mod text;
 
 pub use decode_error::DecodeError;
 pub use fault::Fault;
@@ -17,3 +19,4 @@ pub use instruction::Insn;
 pub use operand::{Mem, Rel, Rm, Width};
 pub use operation::{AluOp, Cond, MulDivOp, ShiftCount, ShiftOp, UnOp};
 pub use register::Reg;
+pub use text::{TEXT_LIMIT, put_text, write_text};
