@@ -1,7 +1,6 @@
 -- What the check of raw code answers, from what its steps do.
-use Rattle.std.proofs.Common.{◌≡◌, ℕ, ◌<◌, ◌≤◌, List, length, Option, Result, Ok, Err, IfOk, refl, sym, subst, ◌∙◌, ap, arith}
-use Rattle.std.specs.Prelude.{IfErr, IsErrOf}
-use Rattle.cet_base.specs.declared.reading.TheConstants.{FILE_LIMIT}
+use Rattle.std.proofs.Common.{◌≡◌, ℕ, List, Option, Result, Ok, Err, IfOk, refl, sym, subst}
+use Rattle.std.specs.Prelude.{IfErr}
 use Rattle.cet_base.specs.Faults.{Rose}
 use Rattle.cet_base.specs.Files.{Contents, FileMeets}
 use Rattle.cet_base.specs.Sink.{Gains, GainsPart}

@@ -1,14 +1,16 @@
 -- What a refusal that was told says of the command.
-use Rattle.std.proofs.Common.{◌≡◌, ℕ, zero, suc, ◌<◌, List, [], ◌∷◌, ◌++◌, length, map, Option, Some, None, Contains, inl, inr, refl, sym, ap, subst, ◌∙◌, arith}
+use Rattle.std.proofs.Common.{◌≡◌, ℕ, suc, List, [], ◌∷◌, ◌++◌, map, Option, Some, None, Contains, inl, inr, refl, sym, subst, ◌∙◌, arith}
 use Rattle.std.specs.Prelude.{◌⊎◌}
 use Rattle.cet_base.specs.Faults.{Rose}
-use Rattle.cet_base.specs.Files.{Contents, IsToldAbsent}
+use Rattle.cet_base.specs.Files.{Contents, FileMeets, IsToldAbsent}
 use Rattle.cet_base.specs.Sink.{Gains}
 use Rattle.cet.specs.declared.refusal.Refusal.{Refusal}
 use Rattle.cet.specs.declared.refusal.Refusal.TheVariants.{Unread, Unfit, NoMemory, Unwritten}
-use Rattle.cet.specs.Command.{Command, CheckRaw, Notes, Asks, Names, files_of}
-use Rattle.cet.specs.Steps.{Step, Read, Form, Passes, Reaches, ComesTo, IsUnfitBy}
-use Rattle.cet.specs.Answer.{IsUnfit, IsAnswer, AreThere, Says}
+use Rattle.cet.specs.Command.{Command, Asks, Names, files_of}
+use Rattle.cet.specs.declared.refusal.Unfit.{Unfit as Reason}
+use Rattle.cet.specs.Unfit.{bad_line, IsUnfitFor}
+use Rattle.cet.specs.Steps.{Step, Read, Form, Passes, Reaches, ComesTo, step_of, IsUnfit}
+use Rattle.cet.specs.Answer.{IsAnswer, AreThere, GainsOrFails}
 use Rattle.cet.specs.Refused.{Effects, HasCause, Tells}
 use Rattle.cet.proofs.Reports.{asks_one}
 
@@ -28,10 +30,11 @@ read_is_named : (told : Option Contents) (command : Command) (name : List ℕ) �
 read_is_named told command name comes = reads_named (Passes told command) (files_of command) (files_of command) name comes
 
 -- status 6 is told of a file that misses its form
-pub unfit_told : (e : Effects) (command : Command) (refusal : Refusal) (status : ℕ) (old new : Option (List ℕ)) (before after : ℕ) → HasCause e command refusal → Tells refusal status old new before after → status ≡ 6 → (line : List ℕ) × Says old new before after line × IsUnfit e.files command line
+pub unfit_told : (e : Effects) (command : Command) (refusal : Refusal) (status : ℕ) (old new : Option (List ℕ)) (before after : ℕ) → HasCause e command refusal → Tells refusal status old new before after → status ≡ 6
+    → (name : List ℕ) × (why : Reason) × ComesTo e.files command (step_of why name) × FileMeets e.files name (IsUnfitFor command why) × GainsOrFails old new before after (bad_line name why)
 unfit_told e command (Unread name) status old new before after cause (inl told) six = absurd (omega (arith, told.0))
 unfit_told e command (Unread name) status old new before after cause (inr told) six = absurd (omega (arith, told.0))
-unfit_told e command (Unfit name why) status old new before after cause (inl told) six = (_, told.1, (name.now, why, refl, cause.1))
+unfit_told e command (Unfit name why) status old new before after cause (inl told) six = (name.now, why, cause.1.0, cause.1.1, told.1)
 unfit_told e command (Unfit name why) status old new before after cause (inr told) six = absurd (omega (arith, told.0))
 unfit_told e command NoMemory status old new before after cause told six = absurd (omega (arith, told.0))
 unfit_told e command Unwritten status old new before after cause told six = absurd (omega (arith, told.0))
@@ -56,8 +59,8 @@ refusal_is_answer e held asked command words (Unfit name why) status old new bef
 refusal_is_answer e held asked command words (Unfit name why) status old new before after tells first second there files_stood out_stood err_stood cause (inl told) = elim told.1 [
   | inl gains ↦ (
       let same = asks_one words asked command first second in
-      let unfit : IsUnfitBy (Some held) command name.now why = subst (λ (t : Option Contents). IsUnfitBy t command name.now why) tells (subst (λ (c : Command). IsUnfitBy e.files c name.now why) same cause.1) in
-      inr ([], _, inr (told.0, refl, (name.now, why, refl, unfit)), cause.0, gains))
+      let unfit : IsUnfit (Some held) command name.now why = subst (λ (t : Option Contents). IsUnfit t command name.now why) tells (subst (λ (c : Command). IsUnfit e.files c name.now why) same cause.1) in
+      inr ([], _, inr (told.0, refl, (name.now, why, unfit, refl)), cause.0, gains))
   | inr rose ↦ absurd (err_stood rose.0)
 ]
 refusal_is_answer e held asked command words NoMemory status old new before after tells first second there files_stood out_stood err_stood cause told = inl told.0

@@ -10,25 +10,39 @@ use Rattle.cet_rules.specs.declared.verdict.Verdict.TheVariants.{Accepted, Refus
 use Rattle.cet_rules.specs.First.{KeepsRules}
 use Rattle.cet_rules.specs.Report.{report}
 use Rattle.cet_machine.specs.Run.{NeverMissesEndBranch}
-use Rattle.cet.specs.Command.{Command, CheckRaw, Notes, Asks, AreRefused}
+use Rattle.cet.specs.Command.{Command, CheckRaw, Dis, Notes, Asks, AreRefused}
 use Rattle.cet.specs.Answer.{IsReport, IsRawVerdict, IsCertified, IsAnswer, status_of}
 
--- words have one verb
-one_verb : (words others rest : List (List ℕ)) → words ≡ codes "check" ∷ others → words ≡ codes "notes" ∷ rest → ⊥
-one_verb words others rest first second =
-    let letters : ◌≡◌ {A = ℕ} 99 110 = ap (λ (ws : List (List ℕ)). get_or (get_or ws 0 []) 0 0) (sym first ∙ second) in omega arith
+-- words have one verb: this is its first letter
+first_letter : (words others rest : List (List ℕ)) (verb other : List ℕ) → words ≡ verb ∷ others → words ≡ other ∷ rest → get_or verb 0 0 ≡ get_or other 0 0
+first_letter words others rest verb other first second = ap (λ (ws : List (List ℕ)). get_or (get_or ws 0 []) 0 0) (sym first ∙ second)
+
+check_or_notes : (words others rest : List (List ℕ)) → words ≡ codes "check" ∷ others → words ≡ codes "notes" ∷ rest → ⊥
+check_or_notes words others rest first second = let letters : ◌≡◌ {A = ℕ} 99 110 = first_letter words others rest _ _ first second in omega arith
+
+check_or_dis : (words others rest : List (List ℕ)) → words ≡ codes "check" ∷ others → words ≡ codes "dis" ∷ rest → ⊥
+check_or_dis words others rest first second = let letters : ◌≡◌ {A = ℕ} 99 100 = first_letter words others rest _ _ first second in omega arith
+
+dis_or_notes : (words others rest : List (List ℕ)) → words ≡ codes "dis" ∷ others → words ≡ codes "notes" ∷ rest → ⊥
+dis_or_notes words others rest first second = let letters : ◌≡◌ {A = ℕ} 100 110 = first_letter words others rest _ _ first second in omega arith
 
 -- words ask for one command at most
 pub asks_one : (words : List (List ℕ)) (c d : Command) → Asks words c → Asks words d → c ≡ d
 asks_one words (CheckRaw file) (CheckRaw other) first second = ap CheckRaw (cc (first.0, second.0))
-asks_one words (CheckRaw file) (Notes files) first second = absurd (one_verb words _ _ first.0 second.0)
-asks_one words (Notes files) (CheckRaw file) first second = absurd (one_verb words _ _ second.0 first.0)
+asks_one words (CheckRaw file) (Dis other) first second = absurd (check_or_dis words _ _ first.0 second.0)
+asks_one words (CheckRaw file) (Notes files) first second = absurd (check_or_notes words _ _ first.0 second.0)
+asks_one words (Dis file) (CheckRaw other) first second = absurd (check_or_dis words _ _ second.0 first.0)
+asks_one words (Dis file) (Dis other) first second = ap Dis (cc (first.0, second.0))
+asks_one words (Dis file) (Notes files) first second = absurd (dis_or_notes words _ _ first.0 second.0)
+asks_one words (Notes files) (CheckRaw file) first second = absurd (check_or_notes words _ _ second.0 first.0)
+asks_one words (Notes files) (Dis file) first second = absurd (dis_or_notes words _ _ second.0 first.0)
 asks_one words (Notes files) (Notes others) first second = ap Notes (cc (first.0, second.0))
 
 -- words of none of the commands are refused
-pub no_command : (words : List (List ℕ)) → ((file : List ℕ) → ¬ Asks words (CheckRaw file)) → ((files : List (List ℕ)) → ¬ Asks words (Notes files)) → AreRefused words
-no_command words check notes (CheckRaw file) asks = check file asks
-no_command words check notes (Notes files) asks = notes files asks
+pub no_command : (words : List (List ℕ)) → ((file : List ℕ) → ¬ Asks words (CheckRaw file)) → ((file : List ℕ) → ¬ Asks words (Dis file)) → ((files : List (List ℕ)) → ¬ Asks words (Notes files)) → AreRefused words
+no_command words check dis notes (CheckRaw file) asks = check file asks
+no_command words check dis notes (Dis file) asks = dis file asks
+no_command words check dis notes (Notes files) asks = notes files asks
 
 -- what is true of one content is true of the file that holds it
 pub meets_more : (files : Option Contents) (name : List ℕ) (P Q : List ℕ → Type 0) → ((b : List ℕ) → P b → Q b) → FileMeets files name P → FileMeets files name Q

@@ -1,16 +1,17 @@
--- The steps of `notes`: which the command comes to, and what a refusal at one of them says.
-use Rattle.std.proofs.Common.{◌≡◌, ℕ, zero, suc, ◌+◌, ◌<◌, ◌≤◌, List, [], ◌∷◌, ◌++◌, length, map, get_or, take, Option, Contains, inl, inr, refl, sym, subst, arith}
+-- The steps of a command: which it comes to, and what a refusal at one of them says.
+use Rattle.std.proofs.Common.{◌≡◌, ℕ, zero, suc, ◌<◌, ◌≤◌, List, [], ◌∷◌, ◌++◌, length, map, get_or, take, Option, inl, inr, refl, sym, subst, arith}
 use Rattle.cet_base.specs.declared.reading.TheConstants.{FILE_LIMIT}
-use Rattle.cet_base.specs.Faults.{Rose}
 use Rattle.cet_base.specs.Files.{Contents, FileMeets}
+use Rattle.cet_base.specs.Sink.{Gains}
 use Rattle.cet_base.proofs.SinkLemmas.{Rose-later}
 use Rattle.cet_note.specs.Note.{Note}
 use Rattle.cet.specs.declared.refusal.Refusal.{Refusal}
 use Rattle.cet.specs.declared.refusal.Refusal.TheVariants.{Unread, Unfit, NoMemory, Unwritten}
-use Rattle.cet.specs.Command.{Command, CheckRaw, Notes}
-use Rattle.cet.specs.Notes.{AllBoth, HoldsBytes, HoldsNote, IsFileNote}
+use Rattle.cet.specs.Command.{Command, Notes, files_of}
+use Rattle.cet.specs.Held.{HoldsBytes}
+use Rattle.cet.specs.Notes.{AllBoth, HoldsNote, IsFileNote}
 use Rattle.cet.specs.Steps.{Step, Read, Form, Passes, Reaches, ComesTo, HasForm}
-use Rattle.cet.specs.Refused.{IsAtStep, IsOfFiles}
+use Rattle.cet.specs.Refused.{Effects, HasCause, IsAtStep, IsOfFiles}
 use Rattle.cet.proofs.Reports.{meets_more}
 
 -- files that hold notes, from their bytes
@@ -22,12 +23,13 @@ hold_notes told (name ∷ names) [] notes holds each = absurd holds
 hold_notes told (name ∷ names) (bytes ∷ held) [] holds each = absurd each
 hold_notes told (name ∷ names) (bytes ∷ held) (note ∷ notes) holds each = ((bytes, holds.0, each.0), hold_notes told names held notes holds.1 each.1)
 
-module _ (told : Option Contents) (all : List (List ℕ)) where
-  -- a file whose bytes were read passes its read, and its form where they are a note
-  passes_read : (name bytes : List ℕ) → HoldsBytes told name bytes → Passes told (Notes all) (Read name)
-  passes_read name bytes holds =
-      meets_more told name (λ held. held ≡ bytes) (λ held. length held ≤ FILE_LIMIT) (λ held same. subst (λ (b : List ℕ). length b ≤ FILE_LIMIT) (sym same) holds.1) holds.0
+-- a file whose bytes were read passes its read
+passes_read : (told : Option Contents) (command : Command) (name bytes : List ℕ) → HoldsBytes told name bytes → Passes told command (Read name)
+passes_read told command name bytes holds =
+    meets_more told name (λ held. held ≡ bytes) (λ held. length held ≤ FILE_LIMIT) (λ held same. subst (λ (b : List ℕ). length b ≤ FILE_LIMIT) (sym same) holds.1) holds.0
 
+module _ (told : Option Contents) (all : List (List ℕ)) where
+  -- and its form where they are a note
   passes_form : (name bytes : List ℕ) (note : Note) → HoldsBytes told name bytes → IsFileNote bytes note → Passes told (Notes all) (Form name)
   passes_form name bytes note holds is =
       meets_more told name (λ held. held ≡ bytes) (HasForm (Notes all)) (λ held same. (note, subst (λ (b : List ℕ). IsFileNote b note) (sym same) is)) holds.0
@@ -37,14 +39,14 @@ module _ (told : Option Contents) (all : List (List ℕ)) where
   reads_pass [] [] rest step holds reach = reach
   reads_pass [] (bytes ∷ held) rest step holds reach = absurd holds
   reads_pass (name ∷ names) [] rest step holds reach = absurd holds
-  reads_pass (name ∷ names) (bytes ∷ held) rest step holds reach = inr (passes_read name bytes holds.0, reads_pass names held rest step holds.1 reach)
+  reads_pass (name ∷ names) (bytes ∷ held) rest step holds reach = inr (passes_read told (Notes all) name bytes holds.0, reads_pass names held rest step holds.1 reach)
 
   -- to the read numbered i
   reads_come : (names held : List (List ℕ)) (rest : List Step) (i : ℕ) (d : List ℕ) → i < length names → AllBoth (HoldsBytes told) (take i names) held → Reaches (Passes told (Notes all)) (map Read names ++ rest) (Read (get_or names i d))
   reads_come [] held rest i d below holds = absurd (omega arith)
   reads_come (name ∷ names) held rest zero d below holds = inl refl
   reads_come (name ∷ names) [] rest (suc i) d below holds = absurd holds
-  reads_come (name ∷ names) (bytes ∷ held) rest (suc i) d below holds = inr (passes_read name bytes holds.0, reads_come names held rest i d (omega arith) holds.1)
+  reads_come (name ∷ names) (bytes ∷ held) rest (suc i) d below holds = inr (passes_read told (Notes all) name bytes holds.0, reads_come names held rest i d (omega arith) holds.1)
 
   -- to the form numbered i
   forms_come : (names held : List (List ℕ)) (notes : List Note) (i : ℕ) (d : List ℕ) → i < length names → AllBoth (HoldsBytes told) names held → AllBoth IsFileNote (take i held) notes → Reaches (Passes told (Notes all)) (map Form names) (Form (get_or names i d))
@@ -69,6 +71,24 @@ at_later told start before after command step (Unread name) order is =
 at_later told start before after command step (Unfit name why) order is = is
 at_later told start before after command step NoMemory order is = is
 at_later told start before after command step Unwritten order is = is
+
+-- a refusal that left the output alone
+pub before_output : (e : Effects) (command : Command) (refusal : Refusal) → Gains e.out_before e.out_after [] → IsOfFiles e.files e.faults_before e.faults_after command refusal → HasCause e command refusal
+before_output e command (Unread name) silent cause = (silent, cause)
+before_output e command (Unfit name why) silent cause = (silent, cause)
+before_output e command NoMemory silent cause = (silent, cause)
+before_output e command Unwritten silent cause = absurd cause
+
+-- a command of one file refused at its read, and at its form
+pub one_read_refused : (told : Option Contents) (before after : ℕ) (command : Command) (name : List ℕ) (refusal : Refusal) → files_of command ≡ name ∷ [] → IsAtStep told before after command (Read name) refusal → IsOfFiles told before after command refusal
+one_read_refused told before after command name refusal one at =
+    of_files told before after command (Read name) refusal (subst (λ (names : List (List ℕ)). Reaches (Passes told command) (map Read names ++ map Form names) (Read name)) (sym one) (inl refl)) at
+
+pub one_form_refused : (told : Option Contents) (before after : ℕ) (command : Command) (name bytes : List ℕ) (refusal : Refusal) → files_of command ≡ name ∷ [] → HoldsBytes told name bytes → IsAtStep told before after command (Form name) refusal → IsOfFiles told before after command refusal
+one_form_refused told before after command name bytes refusal one holds at =
+    of_files told before after command (Form name) refusal
+    (subst (λ (names : List (List ℕ)). Reaches (Passes told command) (map Read names ++ map Form names) (Form name)) (sym one) (inr (passes_read told command name bytes holds, inl refl)))
+    at
 
 -- the read numbered i refused
 pub read_refused : (told : Option Contents) (start before after : ℕ) (names held : List (List ℕ)) (i : ℕ) (name : List ℕ) (refusal : Refusal) → i < length names → get_or names i name ≡ name → AllBoth (HoldsBytes told) (take i names) held → start ≤ before → IsAtStep told before after (Notes names) (Read name) refusal → IsOfFiles told start after (Notes names) refusal

@@ -1,5 +1,5 @@
 -- The items of a list, and the texts of words.
-use Rattle.std.proofs.Common.{◌≡◌, ℕ, suc, ◌-◌, ◌+◌, ◌<◌, ◌≤◌, ◌^◌, List, [], ◌∷◌, length, map, get_or, take, drop, All, String, codes, arith, ap, sym, ◌∙◌}
+use Rattle.std.proofs.Common.{◌≡◌, ℕ, suc, ◌-◌, ◌<◌, ◌≤◌, List, [], ◌∷◌, length, get_or, take, drop, String, codes, arith, ap, sym, ◌∙◌}
 use Rattle.std.specs.Global.{Global}
 use Rattle.std.specs.String.{string_bytes}
 use Rattle.std.proofs.lemmas.List.{get_or-map, length-map, take_all}
@@ -11,6 +11,12 @@ three (x ∷ []) a b c low high p q r = absurd (omega arith)
 three (x ∷ y ∷ []) a b c low high p q r = absurd (omega arith)
 three (x ∷ y ∷ z ∷ []) a b c low high p q r = cc
 three (x ∷ y ∷ z ∷ w ∷ xs) a b c low high p q r = absurd (omega arith)
+
+pub two : {A : Type 0} (xs : List A) (a b : A) → 2 ≤ length xs → length xs < 3 → a ≡ get_or xs 0 a → b ≡ get_or xs 1 b → xs ≡ a ∷ b ∷ []
+two [] a b low high p q = absurd (omega arith)
+two (x ∷ []) a b low high p q = absurd (omega arith)
+two (x ∷ y ∷ []) a b low high p q = cc
+two (x ∷ y ∷ z ∷ xs) a b low high p q = absurd (omega arith)
 
 -- the text of a word that was read by its place
 pub texts_at : (words : List (String Global)) (i : ℕ) (word : String Global) (d : List ℕ) → i < length words → word ≡ get_or words i word → get_or (texts words) i d ≡ string_bytes word

@@ -1,6 +1,5 @@
 -- What the program answers: the report of a command, and the cause of every refusal.
-use Rattle.std.specs.Prelude.{◌≡◌, ℕ, List, [], Option, Some, ◌⊎◌}
-use Rattle.std.specs.Fmt.{decimal}
+use Rattle.std.specs.Prelude.{◌≡◌, ◌≢◌, ℕ, List, [], Option, Some, ◌⊎◌}
 use Rattle.cet_base.specs.Faults.{Rose}
 use Rattle.cet_base.specs.Files.{Contents, FileMeets}
 use Rattle.cet_base.specs.Sink.{Gains, GainsPart}
@@ -8,21 +7,22 @@ use Rattle.cet_rules.specs.declared.image.Image.{Image}
 use Rattle.cet_rules.specs.declared.verdict.Verdict.{Verdict}
 use Rattle.cet_rules.specs.declared.verdict.Verdict.TheVariants.{Accepted, Refused}
 use Rattle.cet_rules.specs.First.{KeepsRules, IsFirst}
-use Rattle.cet_rules.specs.Raw.{IsRaw}
+use Rattle.cet_rules.specs.Raw.{IsRaw, raw_start}
 use Rattle.cet_rules.specs.Report.{report}
 use Rattle.cet_machine.specs.Run.{NeverMissesEndBranch}
+use Rattle.cet_listing.specs.Listing.{IsListing}
 use Rattle.cet_note.specs.Note.{Note}
 use Rattle.cet_note.specs.Merged.{IsMerged}
-use Rattle.cet.specs.Command.{Command, CheckRaw, Notes, Asks, Names}
+use Rattle.cet.specs.Command.{Command, CheckRaw, Dis, Notes, Asks, Names}
+use Rattle.cet.specs.Held.{HoldsBytes}
 use Rattle.cet.specs.Notes.{HoldNotes, notes_text}
-use Rattle.cet.specs.Steps.{IsUnfitBy, IsUnreadBy}
-use Rattle.cet.specs.Text.{bad_line, file_line}
-use Rattle.cet.specs.Unfit.{place, reason}
+use Rattle.cet.specs.Steps.{IsUnfit}
+use Rattle.cet.specs.Unfit.{bad_line}
 use Rattle.cet.specs.declared.refusal.Unfit.{Unfit}
 
 -- P holds of the command that the words ask for
-abbrev pub Asked : List (List ℕ) → (Command → Type 0) → Type 0
-Asked words P = (command : Command) × Asks words command × P command
+abbrev pub WithCommand : List (List ℕ) → (Command → Type 0) → Type 0
+WithCommand words P = (command : Command) × Asks words command × P command
 
 -- ---- reports
 
@@ -40,6 +40,8 @@ abbrev pub IsReport : Option Contents → Command → ℕ → List ℕ → Type 
 IsReport files (CheckRaw file) status text =
     (bytes : List ℕ) × (verdict : Verdict) × FileMeets files file (λ held. held ≡ bytes) × IsRawVerdict bytes verdict
     × (status ≡ status_of verdict) × (text ≡ report verdict)
+IsReport files (Dis file) status text =
+    (bytes : List ℕ) × HoldsBytes files file bytes × (bytes ≢ []) × IsListing raw_start bytes text × (status ≡ 0)
 IsReport files (Notes names) status text =
     (notes : List Note) × (merged : Note) × HoldNotes files names notes × IsMerged notes merged
     × (status ≡ 0) × (text ≡ notes_text names notes merged)
@@ -48,23 +50,11 @@ IsReport files (Notes names) status text =
 abbrev pub IsCertified : List ℕ → Type 0
 IsCertified bytes = (image : Image) × IsRaw image bytes × KeepsRules image × NeverMissesEndBranch image
 
--- ---- refusals
-
--- a file of the command is not of its form or over the limit, each step before was passed, and this is the line that says so
-abbrev pub IsUnfit : Option Contents → Command → List ℕ → Type 0
-IsUnfit files command text =
-    (name : List ℕ) × (why : Unfit) × (text ≡ bad_line name (decimal (place why)) (reason why)) × IsUnfitBy files command name why
-
--- a file of the command could not be read, each step before was passed, and this is the line that says so
-abbrev pub IsUnread : Option Contents → ℕ → ℕ → Command → List ℕ → Type 0
-IsUnread files before after command text =
-    (name : List ℕ) × (text ≡ file_line name) × IsUnreadBy files before after command name
-
 -- ---- outputs
 
--- the output gained the text, or where its count of faults rose some first part of it
-abbrev pub Says : Option (List ℕ) → Option (List ℕ) → ℕ → ℕ → List ℕ → Type 0
-Says old new before after text = Gains old new text ⊎ (Rose before after × GainsPart old new text)
+-- the output gained the text, or, where its count of faults rose, some first part of it
+abbrev pub GainsOrFails : Option (List ℕ) → Option (List ℕ) → ℕ → ℕ → List ℕ → Type 0
+GainsOrFails old new before after text = Gains old new text ⊎ (Rose before after × GainsPart old new text)
 
 -- ---- completeness
 
@@ -75,4 +65,5 @@ AreThere files command = (name : List ℕ) → Names command name → (bytes : L
 -- what the program answers over files that hold this, where nothing fails: a status, and the whole texts on output and standard error
 abbrev pub IsAnswer : Contents → Command → ℕ → List ℕ → List ℕ → Type 0
 IsAnswer files command status out err =
-    (IsReport (Some files) command status out × (err ≡ [])) ⊎ ((status ≡ 6) × (out ≡ []) × IsUnfit (Some files) command err)
+    (IsReport (Some files) command status out × (err ≡ [])) ⊎ ((status ≡ 6) × (out ≡ [])
+    × ((name : List ℕ) × (why : Unfit) × IsUnfit (Some files) command name why × (err ≡ bad_line name why)))

@@ -6,6 +6,8 @@ use Rattle.std.specs.Global.{Global}
 pub data Command : Type 0 where
   -- certify the raw code that the file of this name holds
   CheckRaw : (file : List ℕ) → Command
+  -- list the raw code that the file of this name holds
+  Dis : (file : List ℕ) → Command
   -- print the property notes that the files of these names hold, and what a link of them may claim
   Notes : (files : List (List ℕ)) → Command
 
@@ -20,6 +22,7 @@ AreFileNames words = (words ≢ []) × (length words + 1 < 2 ^ 32) × All IsFile
 -- the words, the verb first, ask for the command
 abbrev pub Asks : List (List ℕ) → Command → Type 0
 Asks words (CheckRaw file) = (words ≡ codes "check" ∷ codes "--raw" ∷ file ∷ []) × IsFileName file
+Asks words (Dis file) = (words ≡ codes "dis" ∷ file ∷ []) × IsFileName file
 Asks words (Notes files) = (words ≡ codes "notes" ∷ files) × AreFileNames files
 
 -- the words ask for no command
@@ -29,6 +32,7 @@ AreRefused words = (command : Command) → ¬ Asks words command
 -- the files that the command reads, in the order of the reads
 abbrev pub files_of : Command → List (List ℕ)
 files_of (CheckRaw file) = file ∷ []
+files_of (Dis file) = file ∷ []
 files_of (Notes files) = files
 
 -- the command names this file

@@ -1,6 +1,7 @@
 pub mod Command
 pub mod Named
 pub mod Text
+pub mod Held
 pub mod Notes
 pub mod Unfit
 pub mod Steps

@@ -1,14 +1,14 @@
 -- Property notes in files, and the text that is printed of them.
-use Rattle.std.specs.Prelude.{◌≡◌, ℕ, ◌≤◌, IsTrue, nat_eq, List, [], ◌∷◌, ◌++◌, length, map, codes, Option, Vec}
+use Rattle.std.specs.Prelude.{ℕ, IsTrue, nat_eq, List, [], ◌∷◌, ◌++◌, map, codes, Option, Vec}
 use Rattle.std.specs.List.{flat_map, starts_with}
 use Rattle.std.specs.Global.{Global}
 use Rattle.byteorder.specs.Endian.{big_bytes}
 use Rattle.hex.specs.Hex.{encode_lower}
-use Rattle.cet_base.specs.declared.reading.TheConstants.{FILE_LIMIT}
-use Rattle.cet_base.specs.Files.{Contents, FileMeets}
+use Rattle.cet_base.specs.Files.{Contents}
 use Rattle.cet_base.specs.Text.{line}
 use Rattle.cet_note.specs.Note.{Property, Note}
 use Rattle.cet_note.specs.Form.{IsForm}
+use Rattle.cet.specs.Held.{HoldsBytes}
 
 -- ---- files
 
@@ -19,10 +19,6 @@ BeginsElf bytes = IsTrue (starts_with nat_eq bytes (0x7f ∷ codes "ELF"))
 -- the bytes of a file are this note: no ELF file, and a form of the note. No bytes are the empty note
 abbrev pub IsFileNote : List ℕ → Note → Type 0
 IsFileNote bytes note = ¬ BeginsElf bytes × IsForm bytes note
-
--- the file of this name holds the bytes, as far as it is told what the files hold, and is within the limit
-abbrev pub HoldsBytes : Option Contents → List ℕ → List ℕ → Type 0
-HoldsBytes files name bytes = FileMeets files name (λ held. held ≡ bytes) × (length bytes ≤ FILE_LIMIT)
 
 -- the bytes in each of these
 abbrev pub items_of : List (Vec ℕ Global) → List (List ℕ)

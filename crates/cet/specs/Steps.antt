@@ -1,14 +1,15 @@
 -- The steps of a command that can refuse a file, in their order. The first that does decides.
-use Rattle.std.specs.Prelude.{◌≡◌, ◌≢◌, ℕ, ◌≤◌, ◌⊎◌, List, [], ◌∷◌, ◌++◌, length, map, Option}
+use Rattle.std.specs.Prelude.{◌≡◌, ◌≢◌, ◌≤◌, ◌⊎◌, ℕ, List, [], ◌∷◌, ◌++◌, length, map, Option}
 use Rattle.cet_base.specs.declared.reading.TheConstants.{FILE_LIMIT}
-use Rattle.cet_base.specs.Faults.{Rose}
-use Rattle.cet_base.specs.Files.{Contents, FileMeets, IsToldAbsent}
+use Rattle.cet_base.specs.Files.{Contents, FileMeets}
+use Rattle.cet_rules.specs.Raw.{raw_start}
+use Rattle.cet_listing.specs.Listing.{IsListed}
 use Rattle.cet_note.specs.Note.{Note}
 use Rattle.cet.specs.declared.refusal.Unfit.{Unfit}
 use Rattle.cet.specs.declared.refusal.Unfit.TheVariants.{TooLarge}
-use Rattle.cet.specs.Command.{Command, CheckRaw, Notes, files_of}
+use Rattle.cet.specs.Command.{Command, CheckRaw, Dis, Notes, files_of}
 use Rattle.cet.specs.Notes.{IsFileNote}
-use Rattle.cet.specs.Unfit.{Misses}
+use Rattle.cet.specs.Unfit.{IsUnfitFor}
 
 pub data Step : Type 0 where
   -- the file of this name is read
@@ -23,6 +24,7 @@ steps_of command = map Read (files_of command) ++ map Form (files_of command)
 -- a file of the command that holds this is of its form
 abbrev pub HasForm : Command → List ℕ → Type 0
 HasForm (CheckRaw file) held = held ≢ []
+HasForm (Dis file) held = (held ≢ []) × IsListed raw_start held
 HasForm (Notes files) held = (note : Note) × IsFileNote held note
 
 -- the step refuses nothing, as far as it is told what the files hold
@@ -44,10 +46,6 @@ abbrev pub step_of : Unfit → List ℕ → Step
 step_of TooLarge name = Read name
 step_of why name = Form name
 
--- the command is refused since the file of this name misses its form so
-abbrev pub IsUnfitBy : Option Contents → Command → List ℕ → Unfit → Type 0
-IsUnfitBy files command name why = ComesTo files command (step_of why name) × FileMeets files name (Misses command why)
-
--- the command is refused since the file of this name could not be read: the count of faults rose, or the file is absent
-abbrev pub IsUnreadBy : Option Contents → ℕ → ℕ → Command → List ℕ → Type 0
-IsUnreadBy files before after command name = ComesTo files command (Read name) × (Rose before after ⊎ IsToldAbsent files name)
+-- the command comes to a file of this name, and the file is unfit for it for this reason
+abbrev pub IsUnfit : Option Contents → Command → List ℕ → Unfit → Type 0
+IsUnfit files command name why = ComesTo files command (step_of why name) × FileMeets files name (IsUnfitFor command why)

@@ -9,7 +9,3 @@ words_line = line (codes "cet: words")
 -- the file of this name could not be read
 abbrev pub file_line : List ℕ → List ℕ
 file_line name = line (codes "cet: file " ++ name)
-
--- the file of this name is not of its form, or passes a limit
-abbrev pub bad_line : List ℕ → List ℕ → List ℕ → List ℕ
-bad_line name at why = line (codes "cet: bad " ++ name ++ codes " at " ++ at ++ codes ": " ++ why)

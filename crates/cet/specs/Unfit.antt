@@ -1,12 +1,18 @@
--- How a file misses its form, and the word for it.
-use Rattle.std.specs.Prelude.{◌≡◌, ℕ, ◌<◌, List, [], length, Err, codes}
+-- Why a file is unfit for a command, and the line that says so.
+use Rattle.std.specs.Prelude.{◌≡◌, ℕ, ◌<◌, List, [], ◌++◌, length, Err, codes}
+use Rattle.std.specs.Fmt.{decimal}
 use Rattle.cet_base.specs.declared.reading.TheConstants.{FILE_LIMIT}
+use Rattle.cet_base.specs.Text.{line, hexadecimal}
+use Rattle.cet_isa.specs.declared.decode_error.DecodeError.{DecodeError}
+use Rattle.cet_isa.specs.declared.decode_error.DecodeError.TheVariants.{Short, Outside}
+use Rattle.cet_rules.specs.Raw.{raw_start}
+use Rattle.cet_listing.specs.Listing.{StopsAt}
 use Rattle.cet_note.specs.declared.fault.NoteError.{NoteError}
 use Rattle.cet_note.specs.declared.fault.NoteError.TheVariants as faults
 use Rattle.cet_note.specs.Fault.{note_in}
 use Rattle.cet.specs.declared.refusal.Unfit.{Unfit}
-use Rattle.cet.specs.declared.refusal.Unfit.TheVariants.{Empty, TooLarge, Elf, NoNote}
-use Rattle.cet.specs.Command.{Command, CheckRaw, Notes}
+use Rattle.cet.specs.declared.refusal.Unfit.TheVariants.{Empty, TooLarge, Elf, NoNote, NoForm}
+use Rattle.cet.specs.Command.{Command, CheckRaw, Dis, Notes}
 use Rattle.cet.specs.Notes.{BeginsElf}
 
 -- the word for the fault of a note
@@ -29,21 +35,34 @@ fault_place (faults.Order at) = at
 fault_place (faults.Twice at) = at
 fault_place faults.NoMemory = 0
 
+-- the word for why some bytes are no form
+abbrev pub no_form_word : DecodeError → List ℕ
+no_form_word Short = codes "short"
+no_form_word Outside = codes "outside"
+
 abbrev pub reason : Unfit → List ℕ
 reason Empty = codes "empty"
 reason TooLarge = codes "toolarge"
 reason Elf = codes "elf"
 reason (NoNote fault) = fault_word fault
+reason (NoForm at why) = no_form_word why
 
--- where in the file: at its start, but for the fault of a note
-abbrev pub place : Unfit → ℕ
-place (NoNote fault) = fault_place fault
-place why = 0
+-- where: at the start of the file, at the offset of a note's fault, or at the address of the bytes that are no form
+abbrev pub place : Unfit → List ℕ
+place (NoNote fault) = decimal (fault_place fault)
+place (NoForm at why) = hexadecimal at
+place why = codes "0"
 
--- a file of the command that holds this misses its form so
-abbrev pub Misses : Command → Unfit → List ℕ → Type 0
-Misses command TooLarge held = FILE_LIMIT < length held
-Misses (CheckRaw file) Empty held = held ≡ []
-Misses (Notes files) Elf held = BeginsElf held
-Misses (Notes files) (NoNote fault) held = ¬ BeginsElf held × (note_in held ≡ Err fault)
-Misses command why held = ⊥
+-- the file of this name is not of its form, or passes a limit
+abbrev pub bad_line : List ℕ → Unfit → List ℕ
+bad_line name why = line (codes "cet: bad " ++ name ++ codes " at " ++ place why ++ codes ": " ++ reason why)
+
+-- what a file holds is unfit for the command, for this reason
+abbrev pub IsUnfitFor : Command → Unfit → List ℕ → Type 0
+IsUnfitFor command TooLarge held = FILE_LIMIT < length held
+IsUnfitFor (CheckRaw file) Empty held = held ≡ []
+IsUnfitFor (Dis file) Empty held = held ≡ []
+IsUnfitFor (Dis file) (NoForm at why) held = StopsAt raw_start held at why
+IsUnfitFor (Notes files) Elf held = BeginsElf held
+IsUnfitFor (Notes files) (NoNote fault) held = ¬ BeginsElf held × (note_in held ≡ Err fault)
+IsUnfitFor command why held = ⊥

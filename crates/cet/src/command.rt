@@ -2,11 +2,12 @@
 
 ghost use Rattle.std.specs.Prelude.{◌≡◌, ◌↔◌, ℕ, List, All, IsTrue, IfSome, IfNone, IfOk, IfErr};
 ghost use Rattle.cet_base.specs.Sink.{Gains};
-ghost use Rattle.cet.specs.Command.{CheckRaw, Notes, Asks, AreRefused, IsFileName, AreFileNames, texts};
+ghost use Rattle.cet.specs.Command.{CheckRaw, Dis, Notes, Asks, AreRefused, IsFileName, AreFileNames, texts};
 ghost use Rattle.cet.specs.Answer.{IsReport};
 ghost use Rattle.cet.specs.Refused.{HasCause};
 
 use crate::check_raw::check_raw;
+use crate::dis::dis;
 use crate::notes::notes;
 use crate::refusal::Refusal;
 use cet_base::{Files, Sink};
@@ -16,6 +17,8 @@ use std::alloc::Global;
 pub enum Command<'a> {
     /// `check --raw FILE`.
     CheckRaw(&'a str),
+    /// `dis FILE`.
+    Dis(&'a str),
     /// `notes FILE...`.
     Notes(&'a [String]),
 }
@@ -60,6 +63,19 @@ fn check_raw_file(words: &[String]) -> Option<&str>
     }
 }
 
+// The file of `dis FILE`.
+fn dis_file(words: &[String]) -> Option<&str>
+    ensures found { IfSome result (λ file. Asks (texts words.now) (Dis file.now)) }
+    ensures none { IfNone result ((file : List ℕ) → ¬ Asks (texts words.now) (Dis file)) }
+{
+    match words {
+        [verb, file] if verb.as_str() == "dis" && is_file_name(file.as_str()) => Some(
+            file.as_str(),
+        ),
+        _ => None,
+    }
+}
+
 // The files of `notes FILE...`.
 fn notes_files(words: &[String]) -> Option<&[String]>
     ensures found { IfSome result (λ files. Asks (texts words.now) (Notes (texts files.now))) }
@@ -86,6 +102,9 @@ impl<'a> Command<'a> {
     {
         if let Some(file) = check_raw_file(words) {
             return Some(Command::CheckRaw(file));
+        }
+        if let Some(file) = dis_file(words) {
+            return Some(Command::Dis(file));
         }
         match notes_files(words) {
             Some(files) => Some(Command::Notes(files)),
@@ -115,6 +134,7 @@ impl<'a> Command<'a> {
     {
         match self {
             Command::CheckRaw(file) => check_raw(alloc, file, files, out),
+            Command::Dis(file) => dis(alloc, file, files, out),
             Command::Notes(names) => notes(alloc, names, files, out),
         }
     }

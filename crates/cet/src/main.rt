@@ -1,12 +1,14 @@
-//! The program `cet`: `check --raw` certifies a file of raw code, `notes` prints and merges property notes.
+//! The program `cet`: `check --raw` certifies a file of raw code, `dis` lists one, `notes` prints and merges property notes.
 //! `top` does all that the program does; its contract is by the definitions `Command`, `Text` and `Answer` of `specs/`.
 //! `main` hands it the real files and outputs.
 #![tactic(auto)]
 
 mod check_raw;
 mod command;
+mod dis;
 mod notes;
 mod notes_text;
+mod reading;
 mod real;
 mod refusal;
 mod status;

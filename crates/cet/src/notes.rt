@@ -4,38 +4,20 @@ ghost use Rattle.std.specs.Prelude.{◌≡◌, ◌≤◌, ℕ, List, Option, len
 ghost use Rattle.cet_base.specs.Faults.{Rose};
 ghost use Rattle.cet_base.specs.Files.{Contents, FileMeets};
 ghost use Rattle.cet_base.specs.Sink.{Gains};
-ghost use Rattle.cet.specs.Command.{Command, Notes, texts};
-ghost use Rattle.cet.specs.Notes.{IsFileNote, HoldsBytes, AllBoth, items_of};
-ghost use Rattle.cet.specs.Steps.{Read, Form};
+ghost use Rattle.cet.specs.Command.{Notes, texts};
+ghost use Rattle.cet.specs.Held.{HoldsBytes};
+ghost use Rattle.cet.specs.Notes.{IsFileNote, AllBoth, items_of};
+ghost use Rattle.cet.specs.Steps.{Form};
 ghost use Rattle.cet.specs.Answer.{IsReport};
 ghost use Rattle.cet.specs.Refused.{HasCause, IsAtStep, IsOfFiles};
 
 use crate::notes_text::notes_report;
+use crate::reading::read_file;
 use crate::refusal::{Refusal, Unfit};
 use crate::status;
-use cet_base::{Files, ReadError, Sink, read_all, write_all};
+use cet_base::{Files, Sink, write_all};
 use cet_note::{NoteError, Props, merge, read_note};
 use std::alloc::Global;
-
-// The bytes of a file.
-fn read_file<'a, F: Files>(
-    alloc: Global,
-    name: &'a str,
-    files: &mut F,
-) -> Result<Vec<u8>, Refusal<'a>>
-    ensures contents { F.contents files.new ≡ F.contents files.old }
-    ensures faults { F.faults files.old ≤ F.faults files.new }
-    ensures held { IfOk result (λ bytes. HoldsBytes (F.contents files.old) name.now bytes.items) }
-    ensures refused { IfErr result (λ refusal. (command : Command)
-        → IsAtStep (F.contents files.old) (F.faults files.old) (F.faults files.new) command (Read name.now) refusal) }
-{
-    match read_all(alloc, files, name) {
-        Ok(bytes) => Ok(bytes),
-        Err(ReadError::Failed) => Err(Refusal::Unread(name)),
-        Err(ReadError::TooLarge) => Err(Refusal::Unfit(name, Unfit::TooLarge)),
-        Err(ReadError::NoMemory) => Err(Refusal::NoMemory),
-    }
-}
 
 // The bytes of each file, in the order of the names.
 fn read_files<'a, F: Files>(

@@ -1,17 +1,19 @@
 //! Why a command was refused, and how that is told on standard error.
 
 ghost use Rattle.std.specs.Prelude.{◌≡◌, IfOk};
-ghost use Rattle.std.specs.Fmt.{decimal};
-ghost use Rattle.cet.specs.Answer.{Says};
-ghost use Rattle.cet.specs.Text.{file_line as line_of_file, bad_line};
-ghost use Rattle.cet.specs.Unfit.{reason, place as place_of, fault_word as word_of, fault_place as offset_of};
+ghost use Rattle.std.specs.String.{string_bytes};
+ghost use Rattle.cet_base.specs.Text.{hexadecimal};
+ghost use Rattle.cet.specs.Answer.{GainsOrFails};
+ghost use Rattle.cet.specs.Text.{file_line as line_of_file};
+ghost use Rattle.cet.specs.Unfit.{reason, place as place_of, bad_line, fault_word as word_of, no_form_word as word_of_no_form, fault_place as offset_of};
 
 use crate::status;
 use cet_base::{NoMemory, Sink, write_all};
+use cet_isa::DecodeError;
 use cet_note::NoteError;
-use std::alloc::Global;
+use std::alloc::{AllocError, Global};
 
-/// How a file misses its form.
+/// Why a file is unfit for a command.
 #[derive(Clone, Copy, Debug, PartialEq, Eq)]
 pub enum Unfit {
     /// It has no byte.
@@ -22,6 +24,8 @@ pub enum Unfit {
     Elf,
     /// It is no property note, for this fault.
     NoNote(NoteError),
+    /// The bytes at an address are no instruction, for this reason, where a listing is asked for.
+    NoForm { at: u64, why: DecodeError },
 }
 
 // The word for the fault of a note.
@@ -54,6 +58,23 @@ fn fault_place(fault: NoteError) -> u64
     }
 }
 
+// The word for why some bytes are no instruction.
+fn no_form_word(why: DecodeError) -> &'static str
+    ensures { result.now ≡ word_of_no_form why }
+{
+    match why {
+        DecodeError::Short => "short",
+        DecodeError::Outside => "outside",
+    }
+}
+
+// An address as text.
+fn address(at: u64, alloc: Global) -> Result<String, AllocError>
+    ensures { IfOk result (λ text. string_bytes text ≡ hexadecimal at) }
+{
+    format!(in alloc; "0x{at:x}")
+}
+
 impl Unfit {
     fn word(self) -> &'static str
         ensures { result.now ≡ reason self }
@@ -63,15 +84,17 @@ impl Unfit {
             Unfit::TooLarge => "toolarge",
             Unfit::Elf => "elf",
             Unfit::NoNote(fault) => fault_word(fault),
+            Unfit::NoForm { why, .. } => no_form_word(why),
         }
     }
 
-    fn place(self) -> u64
-        ensures { result ≡ place_of self }
+    fn place(self, alloc: Global) -> Result<String, AllocError>
+        ensures { IfOk result (λ text. string_bytes text ≡ place_of self) }
     {
         match self {
-            Unfit::NoNote(fault) => fault_place(fault),
-            _ => 0,
+            Unfit::NoNote(fault) => fault_place(fault).to_string(alloc),
+            Unfit::NoForm { at, .. } => address(at, alloc),
+            _ => String::from_str(alloc, "0"),
         }
     }
 }
@@ -91,7 +114,7 @@ pub enum Refusal<'a> {
 
 /// Writes the text, as far as the output takes it.
 pub fn say<E: Sink>(err: &mut E, text: &[u8])
-    ensures said { Says (E.bytes err.old) (E.bytes err.new) (E.faults err.old) (E.faults err.new) text.now }
+    ensures said { GainsOrFails (E.bytes err.old) (E.bytes err.new) (E.faults err.old) (E.faults err.new) text.now }
 {
     let _ = write_all(err, text);
 }
@@ -108,12 +131,12 @@ fn file_line(alloc: Global, name: &str) -> Result<Vec<u8>, NoMemory>
 
 // The line `cet: bad NAME at N: WHY`.
 fn unfit_line(alloc: Global, name: &str, why: Unfit) -> Result<Vec<u8>, NoMemory>
-    ensures { IfOk result (λ text. text.items ≡ bad_line name.now (decimal (place_of why)) (reason why)) }
+    ensures { IfOk result (λ text. text.items ≡ bad_line name.now why) }
 {
     let mut text = Vec::from_slice(alloc, b"cet: bad ")?;
     text.extend_from_slice(name.as_bytes())?;
     text.extend_from_slice(b" at ")?;
-    text.extend_from_slice(why.place().to_string(alloc)?.as_bytes())?;
+    text.extend_from_slice(why.place(alloc)?.as_bytes())?;
     text.extend_from_slice(b": ")?;
     text.extend_from_slice(why.word().as_bytes())?;
     text.push(b'\n')?;

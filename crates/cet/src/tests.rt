@@ -6,6 +6,7 @@ use cet_base::{Failed, Files, MemFiles, MemSink, NoMemory, Sink};
 use std::alloc::Global;
 use std::test::Fail;
 
+mod dis;
 mod notes;
 
 /// What the program answered.

@@ -2,13 +2,16 @@
 
 ghost use Rattle.std.specs.Prelude.{◌≡◌, ◌≢◌, ◌≤◌, ◌<◌, ◌↔◌, ◌⊎◌, ℕ, List, [], Some};
 ghost use Rattle.cet_base.specs.Faults.{Rose};
-ghost use Rattle.cet_base.specs.Files.{Contents, FileMeets};
+ghost use Rattle.cet_base.specs.Files.{Contents, FileMeets, IsToldAbsent};
 ghost use Rattle.cet_base.specs.Sink.{Gains, GainsPart};
 ghost use Rattle.cet_rules.specs.declared.verdict.Verdict.TheVariants.{Accepted};
 ghost use Rattle.cet_rules.specs.Report.{report};
 ghost use Rattle.cet.specs.Command.{Command, CheckRaw, Asks, AreRefused, texts};
-ghost use Rattle.cet.specs.Text.{words_line};
-ghost use Rattle.cet.specs.Answer.{Asked, IsReport, IsUnfit, IsUnread, IsAnswer, IsCertified, AreThere, Says};
+ghost use Rattle.cet.specs.Text.{words_line, file_line};
+ghost use Rattle.cet.specs.declared.refusal.Unfit.{Unfit};
+ghost use Rattle.cet.specs.Unfit.{bad_line, IsUnfitFor};
+ghost use Rattle.cet.specs.Steps.{Read, step_of, ComesTo};
+ghost use Rattle.cet.specs.Answer.{WithCommand, IsReport, IsAnswer, IsCertified, AreThere, GainsOrFails};
 
 use crate::command::Command as Request;
 use crate::refusal::say;
@@ -18,10 +21,16 @@ use cet_sound::soundness;
 use std::alloc::Global;
 
 /// Carries out the command of the words, the verb first, and answers the status. `check --raw FILE` certifies raw code;
-/// `notes FILE...` prints the property note of each file and what a link of them may claim.
+/// `dis FILE` lists raw code; `notes FILE...` prints the property note of each file and what a link of them may claim.
 ///
 /// Statuses: 0 done, or accepted; 1 a rule is broken; 2 the words are no command; 3 a file could not be read; 4 no memory;
-/// 5 the output failed; 6 a file is not of its form or over its limit. Want of memory may come in place of any answer but 2.
+/// 5 the output failed; 6 a file is not of its form or over its limit. It may be 4 in place of any answer but 2.
+///
+/// How the contract reads. `Gains old new text`: the output took the whole text and nothing else. `GainsPart old new text`: it took some first
+/// part of it, which may be empty or the whole. `GainsOrFails`: the whole, or a first part where its count of faults rose. `Rose old new`: that
+/// count rose in this call. `WithCommand words P`: the words ask for a command, and P holds of it. `ComesTo files command step`: every earlier
+/// step of the command passed. `FileMeets files name P`: the file of this name exists, and P holds of its bytes. Where the files or an output do
+/// not tell what they hold, `FileMeets` and the `Gains` of it say nothing, and no file `IsToldAbsent`.
 pub fn top<F: Files, O: Sink, E: Sink>(
     alloc: Global,
     words: &[String],
@@ -32,43 +41,47 @@ pub fn top<F: Files, O: Sink, E: Sink>(
     ensures statuses { result ≤ 6 }
     ensures files_stay { F.contents files.new ≡ F.contents files.old }
 
-    // 0: the output gained `accepted`, and the code that was checked keeps the rules and never misses an ENDBR64.
-    ensures accepted { (file : List ℕ) → Asks (texts words.now) (CheckRaw file) → result ≡ 0
-        → Gains (O.bytes out.old) (O.bytes out.new) (report Accepted) × FileMeets (F.contents files.old) file IsCertified }
-    // 0 and 1: the output gained the whole report of the command.
-    ensures reported { result < 2 → Asked (texts words.now) (λ command. (text : List ℕ)
+    // 0 of `check --raw`: the output gained `accepted`, and the file's code keeps the rules and no run of it ends by a missed ENDBR64.
+    ensures accepted { (name : List ℕ) → Asks (texts words.now) (CheckRaw name) → result ≡ 0
+        → Gains (O.bytes out.old) (O.bytes out.new) (report Accepted) × FileMeets (F.contents files.old) name IsCertified }
+    // 0 and 1: the output gained the whole report of the command on what the files hold; with 1 it names the first broken rule.
+    ensures reported { result < 2 → WithCommand (texts words.now) (λ command. (text : List ℕ)
         × Gains (O.bytes out.old) (O.bytes out.new) text × IsReport (F.contents files.old) command result text) }
 
-    // 2: exactly where the words are no command.
+    // 2: exactly where the words are no command; the line is `cet: words`.
     ensures words { (result ≡ 2) ↔ AreRefused (texts words.now) }
-    ensures words_said { result ≡ 2 → Says (E.bytes err.old) (E.bytes err.new) (E.faults err.old) (E.faults err.new) words_line }
+    ensures words_said { result ≡ 2 → GainsOrFails (E.bytes err.old) (E.bytes err.new) (E.faults err.old) (E.faults err.new) words_line }
 
-    // 3: only where the files' count of faults rose, or a file is absent.
-    ensures unread { result ≡ 3 → Asked (texts words.now) (λ command. (line : List ℕ)
-        × Says (E.bytes err.old) (E.bytes err.new) (E.faults err.old) (E.faults err.new) line
-        × IsUnread (F.contents files.old) (F.faults files.old) (F.faults files.new) command line) }
+    // 3: only where the files' count of faults rose in this call, or the file is known not to exist; the line is `cet: file NAME`.
+    ensures unread { result ≡ 3 → WithCommand (texts words.now) (λ command. (name : List ℕ) × ComesTo (F.contents files.old) command (Read name)
+        × (Rose (F.faults files.old) (F.faults files.new) ⊎ IsToldAbsent (F.contents files.old) name)
+        × GainsOrFails (E.bytes err.old) (E.bytes err.new) (E.faults err.old) (E.faults err.new) (file_line name)) }
 
-    // 5: only where the output's count of faults rose; some first part of the report was written.
+    // 4: out of memory, which may come at any step before something is written: nothing is, as below.
+
+    // 5: only where the output's count of faults rose; a first part was written of the report that would have come with 0 or 1.
     ensures unwritten { result ≡ 5 → Rose (O.faults out.old) (O.faults out.new) }
-    ensures cut_off { result ≡ 5 → Asked (texts words.now) (λ command. (status : ℕ) × (text : List ℕ)
+    ensures cut_off { result ≡ 5 → WithCommand (texts words.now) (λ command. (status : ℕ) × (text : List ℕ)
         × GainsPart (O.bytes out.old) (O.bytes out.new) text × IsReport (F.contents files.old) command status text) }
 
-    // 6: only where a file is not of its form or over its limit.
-    ensures unfit { result ≡ 6 → Asked (texts words.now) (λ command. (line : List ℕ)
-        × Says (E.bytes err.old) (E.bytes err.new) (E.faults err.old) (E.faults err.new) line
-        × IsUnfit (F.contents files.old) command line) }
+    // 6: only where a file is malformed or too long for the command, found at the step that looks for it; the line is
+    // `cet: bad NAME at N: WORD`, with the place and the reason.
+    ensures unfit { result ≡ 6 → WithCommand (texts words.now) (λ command. (name : List ℕ) × (why : Unfit)
+        × ComesTo (F.contents files.old) command (step_of why name) × FileMeets (F.contents files.old) name (IsUnfitFor command why)
+        × GainsOrFails (E.bytes err.old) (E.bytes err.new) (E.faults err.old) (E.faults err.new) (bad_line name why)) }
 
     // With 2, 3, 4 and 6 nothing goes to the output; with 0, 1, 4 and 5 nothing goes to standard error.
     ensures output_silent { 2 ≤ result → result ≢ 5 → Gains (O.bytes out.old) (O.bytes out.new) [] }
     ensures error_silent { result ≢ 2 → result ≢ 3 → result ≢ 6 → Gains (E.bytes err.old) (E.bytes err.new) [] }
 
-    // Where every file is there and nothing fails, the answer is the one defined, or want of memory.
+    // Where the files tell what they hold, each that the command reads exists and no count of faults rose, the status and both texts are the
+    // answer that is defined, the report or 6 with its line, unless the status is 4.
     ensures complete { (held : Contents) (command : Command) → F.contents files.old ≡ Some held → Asks (texts words.now) command → AreThere held command
         → ¬ Rose (F.faults files.old) (F.faults files.new) → ¬ Rose (O.faults out.old) (O.faults out.new) → ¬ Rose (E.faults err.old) (E.faults err.new)
-        → (result ≡ 4) ⊎ ((told said : List ℕ) × IsAnswer held command result told said
-        × Gains (O.bytes out.old) (O.bytes out.new) told × Gains (E.bytes err.old) (E.bytes err.new) said) }
+        → (result ≡ 4) ⊎ ((out_text err_text : List ℕ) × IsAnswer held command result out_text err_text
+        × Gains (O.bytes out.old) (O.bytes out.new) out_text × Gains (E.bytes err.old) (E.bytes err.new) err_text) }
 {
-    // What an accepted image never does: it costs nothing to run.
+    // The theorem that code which keeps the rules never misses an ENDBR64; at run time it does nothing.
     soundness();
     let Some(request) = Request::read(words) else {
         say(err, b"cet: words\n");

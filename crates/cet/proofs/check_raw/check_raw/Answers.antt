@@ -1,6 +1,5 @@
-use Rattle.std.proofs.Common.{◌≡◌, ℕ, ◌<◌, ◌≤◌, length, ap, ◌∙◌, refl, arith}
+use Rattle.std.proofs.Common.{◌≡◌, ◌<◌, ◌≤◌, length, refl, arith}
 use Rattle.std.specs.Prelude.{vec_len}
-use Rattle.cet_rules.specs.Raw.{raw_start}
 use Rattle.cet.specs.Refused.{Effects}
 use Rattle.cet.proofs.Checked.{held_is_read, verdict_on_read, reported, unwritten}
 use Rattle.cet.proofs.check_raw.check_raw.Goals as goal

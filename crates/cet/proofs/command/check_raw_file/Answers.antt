@@ -1,7 +1,4 @@
-use Rattle.std.proofs.Common.{rules, ◌≡◌, List, [], ◌∷◌, codes, sym, ◌∙◌, ap}
-use Rattle.std.specs.List.{slice_get}
-use Rattle.std.specs.String.{string_bytes}
-use Rattle.cet.specs.Command.{texts}
+use Rattle.std.proofs.Common.{rules, ◌≡◌, codes, sym, ◌∙◌}
 use Rattle.cet.proofs.Words.{three}
 use Rattle.cet.proofs.command.check_raw_file.Goals as goal
 

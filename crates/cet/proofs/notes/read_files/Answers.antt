@@ -1,7 +1,8 @@
-use Rattle.std.proofs.Common.{rules, ◌≡◌, ◌+◌, ◌<◌, ◌≤◌, ◌∷◌, ◌++◌, [], ℕ, List, length, get_or, take, sym, subst, ◌∙◌, arith}
+use Rattle.std.proofs.Common.{rules, ◌≡◌, ◌+◌, ◌<◌, ◌∷◌, ◌++◌, [], ℕ, List, length, get_or, take, sym, subst, ◌∙◌, arith}
 use Rattle.std.proofs.lemmas.Result.{err_from_is_err_and}
 use Rattle.cet.specs.Command.{Notes, texts}
-use Rattle.cet.specs.Notes.{HoldsBytes, AllBoth, items_of}
+use Rattle.cet.specs.Held.{HoldsBytes}
+use Rattle.cet.specs.Notes.{AllBoth, items_of}
 use Rattle.cet.proofs.Words.{texts_at, length-texts}
 use Rattle.cet.proofs.Pairs.{AllBoth-more, items_of-push}
 use Rattle.cet.proofs.StepLemmas.{read_refused}

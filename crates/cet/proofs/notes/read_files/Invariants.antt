@@ -1,6 +1,7 @@
 use Rattle.std.proofs.Common.{◌≡◌, ◌≤◌, take}
 use Rattle.cet.specs.Command.{texts}
-use Rattle.cet.specs.Notes.{HoldsBytes, AllBoth, items_of}
+use Rattle.cet.specs.Held.{HoldsBytes}
+use Rattle.cet.specs.Notes.{AllBoth, items_of}
 use Rattle.cet.proofs.notes.read_files.Given as goal
 
 -- the files so far hold the bytes so far

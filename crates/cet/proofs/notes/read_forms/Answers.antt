@@ -1,8 +1,8 @@
-use Rattle.std.proofs.Common.{rules, ◌≡◌, ◌+◌, ◌<◌, ◌∷◌, ◌++◌, [], ℕ, List, Option, length, get_or, take, sym, subst, ◌∙◌, arith}
+use Rattle.std.proofs.Common.{rules, ◌≡◌, ◌+◌, ◌<◌, ◌∷◌, ◌++◌, [], ℕ, List, length, get_or, take, sym, subst, ◌∙◌, arith}
 use Rattle.std.proofs.lemmas.Result.{err_from_is_err_and}
 use Rattle.cet_base.specs.Files.{FileMeets}
 use Rattle.cet_note.specs.Note.{Note}
-use Rattle.cet.specs.Command.{Notes, texts}
+use Rattle.cet.specs.Command.{texts}
 use Rattle.cet.specs.Notes.{IsFileNote, AllBoth, items_of}
 use Rattle.cet.proofs.Words.{texts_at, length-texts}
 use Rattle.cet.proofs.Pairs.{AllBoth-more, items_at, length-items_of}

@@ -1,9 +1,9 @@
-use Rattle.std.proofs.Common.{◌≡◌, ℕ, List, length, refl, sym, ap, subst, ◌∙◌}
+use Rattle.std.proofs.Common.{◌≡◌, length, refl, sym, ap, ◌∙◌}
 use Rattle.std.proofs.lemmas.Result.{err_from_is_err_and}
-use Rattle.cet_note.specs.Note.{Note}
 use Rattle.cet_note.specs.Merged.{IsMerged}
 use Rattle.cet.specs.Command.{texts}
-use Rattle.cet.specs.Notes.{HoldsBytes, IsFileNote, AllBoth, items_of, notes_text}
+use Rattle.cet.specs.Held.{HoldsBytes}
+use Rattle.cet.specs.Notes.{IsFileNote, AllBoth, items_of, notes_text}
 use Rattle.cet.proofs.Words.{length-texts}
 use Rattle.cet.proofs.Pairs.{AllBoth-length, length-items_of}
 use Rattle.cet.proofs.StepLemmas.{hold_notes}

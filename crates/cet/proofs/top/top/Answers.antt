@@ -1,9 +1,8 @@
-use Rattle.std.proofs.Common.{◌≡◌, ℕ, List, subst, inr}
-use Rattle.cet_base.specs.Files.{FileMeets}
+use Rattle.std.proofs.Common.{ℕ, List, subst, inr}
 use Rattle.cet_base.specs.Sink.{Gains}
 use Rattle.cet.specs.Command.{Command, CheckRaw, texts}
 use Rattle.cet.specs.Named.{named}
-use Rattle.cet.specs.Answer.{IsReport, IsCertified}
+use Rattle.cet.specs.Answer.{IsReport}
 use Rattle.cet.specs.Refused.{Effects}
 use Rattle.cet.proofs.Reports.{asks_one, accepted_report, report_is_answer}
 use Rattle.cet.proofs.Refusals.{unfit_told, refusal_is_answer}

@@ -1,0 +1,31 @@
+//! The reading of a file that a command names.
+
+ghost use Rattle.std.specs.Prelude.{◌≡◌, ◌≤◌, IfOk, IfErr};
+ghost use Rattle.cet.specs.Command.{Command};
+ghost use Rattle.cet.specs.Held.{HoldsBytes};
+ghost use Rattle.cet.specs.Steps.{Read};
+ghost use Rattle.cet.specs.Refused.{IsAtStep};
+
+use crate::refusal::{Refusal, Unfit};
+use cet_base::{Files, ReadError, read_all};
+use std::alloc::Global;
+
+/// The bytes of a file.
+pub fn read_file<'a, F: Files>(
+    alloc: Global,
+    name: &'a str,
+    files: &mut F,
+) -> Result<Vec<u8>, Refusal<'a>>
+    ensures contents { F.contents files.new ≡ F.contents files.old }
+    ensures faults { F.faults files.old ≤ F.faults files.new }
+    ensures held { IfOk result (λ bytes. HoldsBytes (F.contents files.old) name.now bytes.items) }
+    ensures refused { IfErr result (λ refusal. (command : Command)
+        → IsAtStep (F.contents files.old) (F.faults files.old) (F.faults files.new) command (Read name.now) refusal) }
+{
+    match read_all(alloc, files, name) {
+        Ok(bytes) => Ok(bytes),
+        Err(ReadError::Failed) => Err(Refusal::Unread(name)),
+        Err(ReadError::TooLarge) => Err(Refusal::Unfit(name, Unfit::TooLarge)),
+        Err(ReadError::NoMemory) => Err(Refusal::NoMemory),
+    }
+}
