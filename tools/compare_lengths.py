@@ -1,15 +1,18 @@
 #!/usr/bin/env python3
-"""Compares the lengths that `decode` tells with those of objdump, on random forms and random bytes.
+"""Compares the lengths of the forms that `cet dis` finds with those of objdump, on random bytes that mostly begin as a form does.
 
-Usage: compare_lengths.py make COUNT SEED > lines      random byte strings, one line of hexadecimal digits each
-       compare_lengths.py check lines answers          answers: for each line the length, `short` or `outside`
+Usage: compare_lengths.py [COUNT [SEED]]      20000 strings of seed 1 where nothing is said; the program has to be built
 
-Strings that are Short or Outside are not compared: objdump knows more instructions than this subset.
+Where `dis` stops in a string at bytes that are `short` or `outside`, the forms before them are compared, and those bytes are not:
+objdump knows more instructions than this subset.
 """
+import collections
 import random
+import re
 import shutil
 import sys
 
+import listing
 import objdump
 
 ONE = list(range(0x00, 0x40)) + list(range(0x50, 0x60)) + [0x63, 0x68, 0x69, 0x6A, 0x6B] + list(range(0x70, 0x80)) + [
@@ -41,40 +44,51 @@ def head():
     return random.choice(PREFIXED) if random.random() < 0.3 else b""
 
 
-def make(count, seed):
-    random.seed(seed)
-    for _ in range(count):
-        print((head() + random.randbytes(15))[:15].hex())
+def string():
+    return (head() + random.randbytes(15))[:15]
 
 
-def check(lines, answers):
+def listed(program, code):
+    """The forms that `dis` finds at the head of the code, and where they end before its end the word for why."""
+    answer = listing.dis(program, code, stderr=listing.PIPE)
+    if answer.returncode == 0:
+        return [bytes.fromhex(line.split(" ")[1]) for line in answer.stdout.splitlines()], None
+    stop = re.fullmatch(r"cet: bad .* at 0x([0-9a-f]+): (short|outside)\n", answer.stderr)
+    if answer.returncode != 6 or not stop:
+        sys.exit(f"{code.hex()}: status {answer.returncode}, {answer.stderr.strip()}")
+    length = int(stop.group(1), 16) - listing.START
+    forms, word = listed(program, code[:length]) if length else ([], None)
+    if word or b"".join(forms) != code[:length]:
+        sys.exit(f"{code.hex()}: the first {length} bytes are no forms by themselves")
+    return forms, stop.group(2)
+
+
+def main(count, seed):
+    program = listing.built()
     if not shutil.which("objdump"):
         print("skipped: no objdump here")
-        return
+        return 0
+    random.seed(seed)
     forms = []
-    counts = {"short": 0, "outside": 0}
-    with open(lines) as f, open(answers) as g:
-        for line, answer in zip(f, g, strict=True):
-            word = answer.split()[0]
-            if word in counts:
-                counts[word] += 1
-            else:
-                forms.append((bytes.fromhex(line.strip())[:int(word)], answer.strip()))
-    starts = objdump.rows(form for form, _ in forms)
-    at = 0
-    bad = 0
-    for form, answer in forms:
-        length, text = starts.get(at, (0, "no instruction begins here"))
+    stops = collections.Counter()
+    for _ in range(count):
+        found, word = listed(program, string())
+        forms += found
+        stops[word] += 1
+    rows = objdump.rows(forms)
+    at = bad = 0
+    for form in forms:
+        length, text = rows.get(at, objdump.NOTHING)
         if length != len(form) or "(bad)" in text:
             bad += 1
             if bad <= 20:
-                print(f"{form.hex()}: decode tells {answer}, objdump {length} {text}")
+                print(f"{form.hex()}: dis tells {len(form)} bytes, objdump {length}, {text}")
         at += len(form)
-    print(f"{len(forms)} forms compared, {bad} lengths differ; not compared: {counts['short']} short, {counts['outside']} outside")
-    sys.exit(1 if bad else 0)
+    print(f"{count} strings of seed {seed}: {len(forms)} forms compared, {bad} lengths differ; {stops['short']} strings end short, "
+          f"{stops['outside']} outside")
+    return 1 if bad else 0
 
 
-if sys.argv[1] == "make":
-    make(int(sys.argv[2]), int(sys.argv[3]))
-else:
-    check(sys.argv[2], sys.argv[3])
+if __name__ == "__main__":
+    words = [int(word) for word in sys.argv[1:]]
+    sys.exit(main(*words, *(20000, 1)[len(words):]))
