@@ -9,7 +9,7 @@ use Rattle.cet_rules.specs.declared.verdict.Verdict.{Verdict}
 use Rattle.cet_rules.specs.declared.verdict.Verdict.TheVariants.{Accepted, Refused}
 use Rattle.cet_rules.specs.First.{KeepsRules}
 use Rattle.cet_rules.specs.Report.{report}
-use Rattle.cet_machine.specs.Run.{NeverMissesEndBranch}
+use Rattle.cet_small_machine.specs.Run.{NeverMissesEndBranch}
 use Rattle.cet.specs.Command.{Command, CheckRaw, Dis, Notes, Asks, AreRefused}
 use Rattle.cet.specs.Answer.{IsReport, IsRawVerdict, IsCertified, IsAnswer, status_of}
 

@@ -9,7 +9,7 @@ use Rattle.cet_rules.specs.declared.verdict.Verdict.TheVariants.{Accepted, Refus
 use Rattle.cet_rules.specs.First.{KeepsRules, IsFirst}
 use Rattle.cet_rules.specs.Raw.{IsRaw, raw_start}
 use Rattle.cet_rules.specs.Report.{report}
-use Rattle.cet_machine.specs.Run.{NeverMissesEndBranch}
+use Rattle.cet_small_machine.specs.Run.{NeverMissesEndBranch}
 use Rattle.cet_listing.specs.Listing.{IsListing}
 use Rattle.cet_note.specs.Note.{Note}
 use Rattle.cet_note.specs.Merged.{IsMerged}

@@ -1,10 +1,10 @@
 -- The region that an address lies in, found from the first region on.
 use Rattle.std.proofs.Common.{◌≡◌, ℕ, ◌+◌, ◌-◌, ◌<◌, ◌≤◌, Bool, true, false, cond, List, [], ◌∷◌, length, get_or, drop, refl, sym, ap, ◌∙◌}
 use Rattle.std.proofs.lemmas.List.{at_drop_more, at_drop_all}
-use Rattle.cet_machine.specs.declared.memory.Kind.{Kind}
-use Rattle.cet_machine.specs.declared.memory.Kind.TheVariants.{Code, Read, Write}
-use Rattle.cet_machine.specs.declared.memory.Region.{Region}
-use Rattle.cet_machine.specs.Memory.{code_at, if_code, lies_in}
+use Rattle.cet_small_machine.specs.declared.memory.Kind.{Kind}
+use Rattle.cet_small_machine.specs.declared.memory.Kind.TheVariants.{Code, Read, Write}
+use Rattle.cet_small_machine.specs.declared.memory.Region.{Region}
+use Rattle.cet_small_machine.specs.Memory.{code_at, if_code, lies_in}
 
 -- the first region left, or what the others have
 first_left : (regions : List Region) (i : ℕ) (r : Region) (a : ℕ) → i < length regions → r ≡ get_or regions i r

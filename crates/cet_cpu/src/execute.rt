@@ -1,13 +1,13 @@
 //! One step.
 
 ghost use Rattle.std.specs.Prelude.{◌≡◌, ◌+◌, ◌%◌, ◌^◌, ◌<◌, length};
-ghost use Rattle.cet_machine.specs.Step.{step as stepped, step_over as stepped_over, meaning, meaning_if_covered};
+ghost use Rattle.cet_small_machine.specs.Step.{step as stepped, step_over as stepped_over, meaning, meaning_if_covered};
 
 use crate::fetch::code_at;
 use cet_decode::{DecodeError, decode};
 use cet_isa::Fault;
-use cet_machine::{Memory, Regs, State};
 use cet_rules::Covered;
+use cet_small_machine::{Memory, Regs, State};
 
 /// The state one step after `state`: the tracker's test, then what the instruction at `rip` does. A state that has ended stays.
 pub fn step(memory: &Memory, state: State) -> State

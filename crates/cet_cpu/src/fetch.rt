@@ -1,9 +1,9 @@
 //! The code bytes from an address on.
 
 ghost use Rattle.std.specs.Prelude.{◌≡◌, ◌↔◌, IsTrue, true};
-ghost use Rattle.cet_machine.specs.Memory.{code_at as code_from, lies_in};
+ghost use Rattle.cet_small_machine.specs.Memory.{code_at as code_from, lies_in};
 
-use cet_machine::{Kind, Memory, Region};
+use cet_small_machine::{Kind, Memory, Region};
 
 fn holds(region: &Region, a: u64) -> bool
     ensures { result ≡ lies_in a region.now }

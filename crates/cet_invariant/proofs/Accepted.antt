@@ -11,12 +11,12 @@ use Rattle.cet_rules.specs.declared.piece.PieceKind.TheVariants.{Prologue}
 use Rattle.cet_rules.specs.Image.{function_at}
 use Rattle.cet_rules.specs.Piece.{instruction_at, prologue_end, prologue_end_by, IsCut}
 use Rattle.cet_rules.specs.First.{KeepsRules}
-use Rattle.cet_machine.specs.declared.state.Regs.{Regs}
-use Rattle.cet_machine.specs.declared.state.State.{State}
-use Rattle.cet_machine.specs.declared.state.State.TheVariants.{Running, Ended}
-use Rattle.cet_machine.specs.Memory.{loaded}
-use Rattle.cet_machine.specs.Step.{step}
-use Rattle.cet_machine.specs.Run.{start, after, NeverMissesEndBranch}
+use Rattle.cet_small_machine.specs.declared.state.Regs.{Regs}
+use Rattle.cet_small_machine.specs.declared.state.State.{State}
+use Rattle.cet_small_machine.specs.declared.state.State.TheVariants.{Running, Ended}
+use Rattle.cet_small_machine.specs.Memory.{loaded}
+use Rattle.cet_small_machine.specs.Step.{step}
+use Rattle.cet_small_machine.specs.Run.{start, after, NeverMissesEndBranch}
 use Rattle.cet_invariant.specs.Sound.{IsSound, Stands, IsAtPiece}
 use Rattle.cet_invariant.specs.Sound.Stands.{at_prologue, at_piece, at_branch}
 use Rattle.cet_invariant.proofs.Cuts.{Standing, standing, cut_is_piece_start}

@@ -9,10 +9,10 @@ use Rattle.cet_rules.specs.declared.piece.PieceKind.TheVariants.{ConstJump}
 use Rattle.cet_rules.specs.Regular.{IsFunction}
 use Rattle.cet_rules.specs.Piece.{instruction_at, IsPiece}
 use Rattle.cet_rules.specs.Rule.{IsLanding}
-use Rattle.cet_machine.specs.declared.state.Regs.{Regs}
-use Rattle.cet_machine.specs.declared.state.State.TheVariants.{Running}
-use Rattle.cet_machine.specs.Memory.{loaded}
-use Rattle.cet_machine.specs.Step.{step}
+use Rattle.cet_small_machine.specs.declared.state.Regs.{Regs}
+use Rattle.cet_small_machine.specs.declared.state.State.TheVariants.{Running}
+use Rattle.cet_small_machine.specs.Memory.{loaded}
+use Rattle.cet_small_machine.specs.Step.{step}
 use Rattle.cet_invariant.specs.Sound.{IsAtPiece, IsAtBranch}
 use Rattle.cet_invariant.specs.Sound.Stands.{at_piece, at_branch}
 use Rattle.cet_invariant.proofs.Cuts.{Keeps, Standing}

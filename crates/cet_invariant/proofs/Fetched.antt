@@ -20,12 +20,12 @@ use Rattle.cet_rules.specs.Regular.{IsSegment, IsFunction}
 use Rattle.cet_rules.specs.Image.{contents_of, lies_in, bytes_from, code_from, end_of}
 use Rattle.cet_rules.specs.Covered.{covered_of}
 use Rattle.cet_rules.specs.Piece.{covered_in, instruction_at}
-use Rattle.cet_machine.specs.declared.memory.Kind.{Kind}
-use Rattle.cet_machine.specs.declared.memory.Kind.TheVariants.{Code, Read, Write}
-use Rattle.cet_machine.specs.declared.state.Regs.{Regs}
-use Rattle.cet_machine.specs.declared.state.State.TheVariants.{Running, Ended}
-use Rattle.cet_machine.specs.Memory.{code_at, if_code, kind_of, region_of, loaded}
-use Rattle.cet_machine.specs.Step.{meaning, step, step_over, endbr64}
+use Rattle.cet_small_machine.specs.declared.memory.Kind.{Kind}
+use Rattle.cet_small_machine.specs.declared.memory.Kind.TheVariants.{Code, Read, Write}
+use Rattle.cet_small_machine.specs.declared.state.Regs.{Regs}
+use Rattle.cet_small_machine.specs.declared.state.State.TheVariants.{Running, Ended}
+use Rattle.cet_small_machine.specs.Memory.{code_at, if_code, kind_of, region_of, loaded}
+use Rattle.cet_small_machine.specs.Step.{meaning, step, step_over, endbr64}
 
 length_of_contents : (s : Segment) → length s.bytes ≤ s.size → length (contents_of s) ≡ s.size
 length_of_contents s fits = omega (arith, length-append {A = ℕ}, length-replicate {A = ℕ})

@@ -2,12 +2,12 @@
 use Rattle.std.proofs.Common.{◌≡◌, ℕ, false, List, [], ◌∷◌, refl}
 use Rattle.cet_isa.specs.declared.fault.Fault.TheVariants.{EndBranch}
 use Rattle.cet_isa.specs.Decoded.{instruction_at, decoded}
-use Rattle.cet_machine.specs.declared.memory.Kind.TheVariants.{Code}
-use Rattle.cet_machine.specs.declared.memory.Region.{Region}
-use Rattle.cet_machine.specs.declared.state.State.{State}
-use Rattle.cet_machine.specs.declared.state.State.TheVariants.{Running, Ended}
-use Rattle.cet_machine.specs.Memory.{code_at}
-use Rattle.cet_machine.specs.Run.{after}
+use Rattle.cet_small_machine.specs.declared.memory.Kind.TheVariants.{Code}
+use Rattle.cet_small_machine.specs.declared.memory.Region.{Region}
+use Rattle.cet_small_machine.specs.declared.state.State.{State}
+use Rattle.cet_small_machine.specs.declared.state.State.TheVariants.{Running, Ended}
+use Rattle.cet_small_machine.specs.Memory.{code_at}
+use Rattle.cet_small_machine.specs.Run.{after}
 
 abbrev memory : List ℕ → List Region
 memory bytes = record { start = 0x401000; kind = Code; bytes = bytes } ∷ []

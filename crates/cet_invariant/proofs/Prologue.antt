@@ -8,10 +8,10 @@ use Rattle.cet_rules.specs.declared.piece.Piece.{Piece}
 use Rattle.cet_rules.specs.Regular.{IsFunction}
 use Rattle.cet_rules.specs.Image.{end_of}
 use Rattle.cet_rules.specs.Piece.{instruction_at, prologue_end_by, IsPrologue, IsPieceStart, IsCut, GoesOn}
-use Rattle.cet_machine.specs.declared.state.Regs.{Regs}
-use Rattle.cet_machine.specs.declared.state.State.TheVariants.{Running}
-use Rattle.cet_machine.specs.Memory.{loaded}
-use Rattle.cet_machine.specs.Step.{step}
+use Rattle.cet_small_machine.specs.declared.state.Regs.{Regs}
+use Rattle.cet_small_machine.specs.declared.state.State.TheVariants.{Running}
+use Rattle.cet_small_machine.specs.Memory.{loaded}
+use Rattle.cet_small_machine.specs.Step.{step}
 use Rattle.cet_invariant.specs.Sound.{IsAtPrologue}
 use Rattle.cet_invariant.proofs.Fetched.{instruction_within}
 use Rattle.cet_invariant.proofs.Cuts.{Keeps, goes_on}

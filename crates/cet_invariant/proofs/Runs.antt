@@ -7,11 +7,11 @@ use Rattle.cet_rules.specs.declared.function.Function.{Function}
 use Rattle.cet_rules.specs.declared.image.Image.{Image}
 use Rattle.cet_rules.specs.Regular.{IsFunction}
 use Rattle.cet_rules.specs.Piece.{instruction_at, IsPieceStart}
-use Rattle.cet_machine.specs.declared.state.Regs.{Regs}
-use Rattle.cet_machine.specs.declared.state.State.{State}
-use Rattle.cet_machine.specs.declared.state.State.TheVariants.{Running, Ended}
-use Rattle.cet_machine.specs.Memory.{loaded}
-use Rattle.cet_machine.specs.Step.{meaning, step}
+use Rattle.cet_small_machine.specs.declared.state.Regs.{Regs}
+use Rattle.cet_small_machine.specs.declared.state.State.{State}
+use Rattle.cet_small_machine.specs.declared.state.State.TheVariants.{Running, Ended}
+use Rattle.cet_small_machine.specs.Memory.{loaded}
+use Rattle.cet_small_machine.specs.Step.{meaning, step}
 use Rattle.cet_invariant.specs.Sound.{Stands}
 use Rattle.cet_invariant.specs.Sound.Stands.{at_piece}
 use Rattle.cet_invariant.proofs.Fetched.{instruction_runs}

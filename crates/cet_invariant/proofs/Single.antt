@@ -11,10 +11,10 @@ use Rattle.cet_rules.specs.Regular.{IsFunction}
 use Rattle.cet_rules.specs.Image.{end_of, LiesIn}
 use Rattle.cet_rules.specs.Piece.{instruction_at, IsPiece, IsPieceStart, IsCut, InstructionGoesOn, target}
 use Rattle.cet_rules.specs.Rule.{Leaves}
-use Rattle.cet_machine.specs.declared.state.Regs.{Regs}
-use Rattle.cet_machine.specs.declared.state.State.TheVariants.{Running}
-use Rattle.cet_machine.specs.Memory.{loaded}
-use Rattle.cet_machine.specs.Step.{meaning, step}
+use Rattle.cet_small_machine.specs.declared.state.Regs.{Regs}
+use Rattle.cet_small_machine.specs.declared.state.State.TheVariants.{Running}
+use Rattle.cet_small_machine.specs.Memory.{loaded}
+use Rattle.cet_small_machine.specs.Step.{meaning, step}
 use Rattle.cet_invariant.specs.Sound.{IsAtPiece}
 use Rattle.cet_invariant.proofs.Fetched.{instruction_within}
 use Rattle.cet_invariant.proofs.Cuts.{Keeps, goes_on}

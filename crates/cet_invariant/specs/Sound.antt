@@ -8,9 +8,9 @@ use Rattle.cet_rules.specs.declared.piece.Piece.{Piece}
 use Rattle.cet_rules.specs.declared.piece.PieceKind.TheVariants.{ConstJump, Single}
 use Rattle.cet_rules.specs.Image.{function_at}
 use Rattle.cet_rules.specs.Piece.{IsPiece, IsPrologue}
-use Rattle.cet_machine.specs.declared.state.Regs.{Regs}
-use Rattle.cet_machine.specs.declared.state.State.{State}
-use Rattle.cet_machine.specs.declared.state.State.TheVariants.{Running, Ended}
+use Rattle.cet_small_machine.specs.declared.state.Regs.{Regs}
+use Rattle.cet_small_machine.specs.declared.state.State.{State}
+use Rattle.cet_small_machine.specs.declared.state.State.TheVariants.{Running, Ended}
 
 -- The program stands at the function's prologue, with an idle tracker.
 pub record IsAtPrologue (image : Image) (f : Function) (r : Regs) (p : Piece) : Type 0 where

@@ -1,9 +1,10 @@
-//! The machine that programs run on: memory, registers, the tracker of indirect branches, one step, and runs.
-//! `specs/` defines them; the types of values that they speak of stand here. `cet_cpu` computes a step.
+//! The machine that a thread runs on, by definitions alone: memory as a list of regions, arithmetic, shadow words, what
+//! each instruction does, one step, and the frames of signals. `specs/` defines them; the types of values that they speak of
+//! stand here. Bodies that compute them stand in `cet_mem`, `cet_alu` and the crates above.
 #![tactic(auto)]
 
+mod action;
 mod memory;
-mod state;
 
-pub use memory::{Kind, Memory, Region};
-pub use state::{Regs, State};
+pub use action::Action;
+pub use memory::{Kind, Region};

@@ -1,12 +1,16 @@
-use cet_base::{Bytes, Items};
+use cet_base::Bytes;
 
 /// What a region may be used for.
 #[derive(Clone, Copy, Debug, PartialEq, Eq)]
 pub enum Kind {
-    /// Instructions are fetched from it.
+    /// Instructions are fetched from it, and data is loaded from it.
     Code,
+    /// Data is loaded from it.
     Read,
+    /// Data is loaded from it and stored to it.
     Write,
+    /// A shadow stack: words are pushed and popped by the instructions that know it, and data is loaded from it.
+    Shadow,
 }
 
 /// A range of addresses with one byte each.
@@ -17,6 +21,3 @@ pub struct Region {
     pub kind: Kind,
     pub bytes: Bytes,
 }
-
-/// Regions that share no address.
-pub type Memory = Items<Region>;

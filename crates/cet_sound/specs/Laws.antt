@@ -3,11 +3,11 @@ use Rattle.std.specs.Prelude.{◌≢◌}
 use Rattle.cet_isa.specs.declared.fault.Fault.TheVariants.{EndBranch}
 use Rattle.cet_rules.specs.declared.image.Image.{Image}
 use Rattle.cet_rules.specs.First.{KeepsRules}
-use Rattle.cet_machine.specs.declared.state.State.{State}
-use Rattle.cet_machine.specs.declared.state.State.TheVariants.{Ended}
-use Rattle.cet_machine.specs.Memory.{loaded}
-use Rattle.cet_machine.specs.Step.{step}
-use Rattle.cet_machine.specs.Run.{start, NeverMissesEndBranch}
+use Rattle.cet_small_machine.specs.declared.state.State.{State}
+use Rattle.cet_small_machine.specs.declared.state.State.TheVariants.{Ended}
+use Rattle.cet_small_machine.specs.Memory.{loaded}
+use Rattle.cet_small_machine.specs.Step.{step}
+use Rattle.cet_small_machine.specs.Run.{start, NeverMissesEndBranch}
 use Rattle.cet_invariant.specs.Sound.{IsSound}
 
 -- a program of an image that keeps the rules begins soundly

@@ -1,20 +1,20 @@
 //! The soundness laws: a program whose image keeps the rules never misses an ENDBR64.
-//! Each is the contract of a function without a body, over the definitions of `cet_rules` (`KeepsRules`), `cet_machine` (`start`,
+//! Each is the contract of a function without a body, over the definitions of `cet_rules` (`KeepsRules`), `cet_small_machine` (`start`,
 //! `step`, `NeverMissesEndBranch`) and `cet_invariant` (`IsSound`).
 #![tactic(auto)]
 
 ghost use Rattle.std.specs.Prelude.{◌≢◌};
 ghost use Rattle.cet_isa.specs.declared.fault.Fault.TheVariants.{EndBranch};
 ghost use Rattle.cet_invariant.specs.Sound.{IsSound};
-ghost use Rattle.cet_machine.specs.Memory.{loaded};
-ghost use Rattle.cet_machine.specs.Run.{NeverMissesEndBranch, start};
-ghost use Rattle.cet_machine.specs.Step.{step};
-ghost use Rattle.cet_machine.specs.declared.state.State.TheVariants.{Ended};
+ghost use Rattle.cet_small_machine.specs.Memory.{loaded};
+ghost use Rattle.cet_small_machine.specs.Run.{NeverMissesEndBranch, start};
+ghost use Rattle.cet_small_machine.specs.Step.{step};
+ghost use Rattle.cet_small_machine.specs.declared.state.State.TheVariants.{Ended};
 ghost use Rattle.cet_rules.specs.First.{KeepsRules};
 ghost use Rattle.cet_sound.specs.Laws.{StartIsSound, StepIsSound, RunIsSound};
 
-use cet_machine::State;
 use cet_rules::Image;
+use cet_small_machine::State;
 
 /// The start of a program is sound.
 pub fn accepted_start(image: &Image)

@@ -1,5 +1,5 @@
-use Rattle.cet_machine.specs.Memory.{loaded}
-use Rattle.cet_machine.specs.Step.{step}
+use Rattle.cet_small_machine.specs.Memory.{loaded}
+use Rattle.cet_small_machine.specs.Step.{step}
 use Rattle.cet_invariant.proofs.Accepted.{step_is_sound, sound_is_no_miss}
 use Rattle.cet_sound.proofs.accepted_step.Goals as goal
 

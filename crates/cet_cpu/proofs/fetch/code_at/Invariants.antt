@@ -1,5 +1,5 @@
 use Rattle.std.proofs.Common.{◌≡◌, drop}
-use Rattle.cet_machine.specs.Memory.{code_at as code_from}
+use Rattle.cet_small_machine.specs.Memory.{code_at as code_from}
 use Rattle.cet_cpu.proofs.fetch.code_at.Given as goal
 
 abbrev pub invariant-loop-region : goal.invariant-loop-region

@@ -2,11 +2,11 @@
 use Rattle.std.specs.Prelude.{◌≢◌, ℕ, zero, suc, List, false}
 use Rattle.cet_isa.specs.declared.fault.Fault.TheVariants.{EndBranch}
 use Rattle.cet_rules.specs.declared.image.Image.{Image}
-use Rattle.cet_machine.specs.declared.memory.Region.{Region}
-use Rattle.cet_machine.specs.declared.state.State.{State}
-use Rattle.cet_machine.specs.declared.state.State.TheVariants.{Running, Ended}
-use Rattle.cet_machine.specs.Memory.{loaded}
-use Rattle.cet_machine.specs.Step.{step}
+use Rattle.cet_small_machine.specs.declared.memory.Region.{Region}
+use Rattle.cet_small_machine.specs.declared.state.State.{State}
+use Rattle.cet_small_machine.specs.declared.state.State.TheVariants.{Running, Ended}
+use Rattle.cet_small_machine.specs.Memory.{loaded}
+use Rattle.cet_small_machine.specs.Step.{step}
 
 -- a program begins at its entry, with RAX 0 and an idle tracker
 abbrev pub start : Image → State

@@ -3,9 +3,9 @@ use Rattle.std.specs.Prelude.{ℕ, ◌+◌, ◌-◌, List, [], ◌∷◌, length
 use Rattle.cet_rules.specs.declared.segment.Segment.{Segment}
 use Rattle.cet_rules.specs.declared.image.Image.{Image}
 use Rattle.cet_rules.specs.Image.{contents_of}
-use Rattle.cet_machine.specs.declared.memory.Kind.{Kind}
-use Rattle.cet_machine.specs.declared.memory.Kind.TheVariants.{Code, Read, Write}
-use Rattle.cet_machine.specs.declared.memory.Region.{Region}
+use Rattle.cet_small_machine.specs.declared.memory.Kind.{Kind}
+use Rattle.cet_small_machine.specs.declared.memory.Kind.TheVariants.{Code, Read, Write}
+use Rattle.cet_small_machine.specs.declared.memory.Region.{Region}
 
 -- a lies in the region
 abbrev pub lies_in : ℕ → Region → Bool

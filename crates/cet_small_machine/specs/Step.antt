@@ -9,11 +9,11 @@ use Rattle.cet_rules.specs.declared.covered.Covered.{Covered}
 use Rattle.cet_rules.specs.declared.covered.Covered.TheVariants.{EndBr64, Nop, Jmp, MovEax, JmpRax, Ud2}
 use Rattle.cet_rules.specs.Covered.{covered_of}
 use Rattle.cet_rules.specs.Piece.{target}
-use Rattle.cet_machine.specs.declared.memory.Region.{Region}
-use Rattle.cet_machine.specs.declared.state.Regs.{Regs}
-use Rattle.cet_machine.specs.declared.state.State.{State}
-use Rattle.cet_machine.specs.declared.state.State.TheVariants.{Running, Ended}
-use Rattle.cet_machine.specs.Memory.{code_at}
+use Rattle.cet_small_machine.specs.declared.memory.Region.{Region}
+use Rattle.cet_small_machine.specs.declared.state.Regs.{Regs}
+use Rattle.cet_small_machine.specs.declared.state.State.{State}
+use Rattle.cet_small_machine.specs.declared.state.State.TheVariants.{Running, Ended}
+use Rattle.cet_small_machine.specs.Memory.{code_at}
 
 -- what the instruction does, where next is the address after it
 abbrev pub meaning : Covered → ℕ → Regs → State
