@@ -4,7 +4,9 @@
 ghost use Rattle.std.specs.Prelude.{◌≤◌, None, IfOk, length};
 
 use cet_base::{Failed, Files, Sink};
-use std::io::{self, Read, Seek, SeekFrom, Write};
+use std::fs::{File, OpenFile, Permissions};
+use std::io::{self, ErrorKind, Read, Seek, SeekFrom, Write};
+use std::path::{Path, PathBuf};
 use std::{fs, rt};
 
 /// The files of the system.
@@ -23,7 +25,76 @@ fn read_at<R: rt::Files>(rt: &R, name: &str, at: u64, buf: &mut [u8]) -> io::Res
     file.read(buf)
 }
 
-impl<R: rt::Files> Files for RealFiles<'_, R> {
+// How many names are tried for a file that is to be written.
+const NAMES: u32 = 1000;
+
+// Makes a new file in the folder of `path`, under the first of some names that no file has.
+fn create_beside<R: rt::Files + AllocGlobal>(
+    rt: &R,
+    path: Path<'_>,
+) -> io::Result<(R::File, PathBuf)> {
+    for n in 0..NAMES {
+        let name = format!(in rt.alloc(); ".cet-{n}.tmp")?;
+        let beside = path.with_file_name(rt.alloc(), &name)?;
+        match File::create_new(rt, &beside) {
+            Ok(file) => return Ok((file, beside)),
+            Err(e) if e.kind() == ErrorKind::AlreadyExists => {}
+            Err(e) => return Err(e),
+        }
+    }
+    Err(io::Error::from(ErrorKind::AlreadyExists))
+}
+
+// Gives a new file these permissions and bytes, and waits until the disk has them.
+fn fill<F: Write + OpenFile>(
+    file: &mut F,
+    bytes: &[u8],
+    permissions: Option<Permissions>,
+) -> io::Result<()> {
+    if let Some(permissions) = permissions {
+        file.set_permissions(permissions)?;
+    }
+    file.write_all(bytes)?;
+    file.sync_all()
+}
+
+// Writes the bytes to a new file beside `path` and puts that in its place, so that at each moment the old bytes or the new ones are there
+// as a whole. Where it fails, the new file is removed.
+fn renew<R: rt::Files + AllocGlobal>(
+    rt: &R,
+    path: Path<'_>,
+    bytes: &[u8],
+    permissions: Option<Permissions>,
+) -> io::Result<()> {
+    let (mut file, beside) = create_beside(rt, path)?;
+    let mut done = fill(&mut file, bytes, permissions);
+    if done.is_ok() {
+        done = fs::rename(rt, &beside, path);
+    }
+    if done.is_err() {
+        let _ = fs::remove_file(rt, &beside);
+    }
+    done
+}
+
+// Makes `bytes` the contents of the file `name`, which keeps its permissions if it was there. A link is followed. What is no regular file, as
+// a terminal or a pipe, is written in place.
+fn replace_file<R: rt::Files + AllocGlobal>(rt: &R, name: &str, bytes: &[u8]) -> io::Result<()> {
+    let old = match fs::metadata(rt, name) {
+        Ok(old) => old,
+        Err(e) if e.kind() == ErrorKind::NotFound => {
+            return renew(rt, Path::new(name), bytes, None);
+        }
+        Err(e) => return Err(e),
+    };
+    if !old.is_file() {
+        return fs::write(rt, name, bytes);
+    }
+    let path = fs::canonicalize(rt, name)?;
+    renew(rt, path.as_path(), bytes, Some(old.permissions()))
+}
+
+impl<R: rt::Files + AllocGlobal> Files for RealFiles<'_, R> {
     ghost contents = { λ _. None };
 
     ghost faults = { λ files. files.faults };
@@ -31,6 +102,17 @@ impl<R: rt::Files> Files for RealFiles<'_, R> {
     fn read(&mut self, name: &str, at: u64, buf: &mut [u8]) -> Result<usize, Failed> {
         match read_at(self.rt, name, at, buf) {
             Ok(n) => Ok(n),
+            Err(_) => {
+                self.faults = self.faults.saturating_add(1);
+                Err(Failed)
+            }
+        }
+    }
+
+    /// The new bytes are written beside the file and renamed over it: after a failure the old file stands.
+    fn replace(&mut self, name: &str, bytes: &[u8]) -> Result<(), Failed> {
+        match replace_file(self.rt, name, bytes) {
+            Ok(()) => Ok(()),
             Err(_) => {
                 self.faults = self.faults.saturating_add(1);
                 Err(Failed)

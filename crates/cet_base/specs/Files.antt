@@ -1,5 +1,5 @@
--- Files by name: what they hold, and what a read of a part gives.
-use Rattle.std.specs.Prelude.{◌≡◌, ℕ, ◌<◌, List, length, take, drop, Option, Some, None, IsSomeAnd, ⊤}
+-- Files by name: what they hold, what a read of a part gives, and what the replacement of a file leaves.
+use Rattle.std.specs.Prelude.{◌≡◌, ◌≢◌, ℕ, ◌<◌, List, length, take, drop, Option, Some, None, IsSomeAnd, ⊤}
 
 -- what the files hold: the bytes of the file of each name that is there. A name is the bytes of its text
 abbrev pub Contents : Type 0
@@ -20,3 +20,13 @@ IsToldAbsent (Some files) name = files name ≡ None
 pub record IsPart (bytes : List ℕ) (at n : ℕ) (buffer : List ℕ) : Type 0 where
   pub same : take n buffer ≡ take n (drop at bytes)
   pub some : at < length bytes → 0 < length buffer → 0 < n
+
+-- whether contents are told is as before, and so is every file but the one of this name, of which nothing is said
+abbrev pub OthersStay : Option Contents → Option Contents → List ℕ → Type 0
+OthersStay None None name = ⊤
+OthersStay (Some old) (Some now) name = (other : List ℕ) → other ≢ name → now other ≡ old other
+OthersStay _ _ name = ⊥
+
+-- the file of this name now has these bytes, where contents are told, and all others stay
+abbrev pub Replaces : Option Contents → Option Contents → List ℕ → List ℕ → Type 0
+Replaces old now name bytes = OthersStay old now name × FileMeets now name (λ held. held ≡ bytes)

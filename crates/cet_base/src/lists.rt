@@ -36,6 +36,13 @@ impl<T> Items<T> {
         }
     }
 
+    // The list of the items of a `Vec`.
+    pub(crate) fn from_vec(items: Vec<T>) -> Self
+        ensures { result ≡ items.items }
+    {
+        Items { items }
+    }
+
     /// Adds `item` at the end.
     pub fn push(&mut self, item: T) -> Result<(), NoMemory>
     where

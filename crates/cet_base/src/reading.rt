@@ -1,7 +1,7 @@
-//! Files to read, and the reading of a whole file.
-ghost use Rattle.std.specs.Prelude.{◌≡◌, ◌+◌, ◌-◌, ◌<◌, ◌≤◌, ◌⊎◌, ◌++◌, List, ℕ, Option, length, take, drop, vec_len, IfOk, IfErr, OnErr, IsErrOf, min};
+//! Files to read and to replace, and the reading of a whole file.
+ghost use Rattle.std.specs.Prelude.{◌≡◌, ◌+◌, ◌-◌, ◌<◌, ◌≤◌, ◌⊎◌, ◌++◌, List, ℕ, Option, length, take, drop, vec_len, IfOk, IfErr, OnOk, OnErr, IsErrOf, min};
 ghost use Rattle.cet_base.specs.Faults.{Rose};
-ghost use Rattle.cet_base.specs.Files.{Contents, FileMeets, IsToldAbsent, IsPart};
+ghost use Rattle.cet_base.specs.Files.{Contents, FileMeets, IsToldAbsent, IsPart, OthersStay, Replaces};
 
 use crate::outcomes::Failed;
 use std::alloc::{AllocError, Global};
@@ -22,6 +22,14 @@ pub trait Files {
         ensures bound { IfOk result (λ n. n ≤ length buf.old) }
         ensures part { IfOk result (λ n. FileMeets (contents self.old) name.now (λ bytes. IsPart bytes at n buf.new)) }
         ensures failed { OnErr result (Rose (faults self.old) (faults self.new) ⊎ IsToldAbsent (contents self.old) name.now) };
+
+    /// Makes `bytes` the whole contents of the file `name`, whether it was there or not. After `Failed`, which counts as a fault, it may
+    /// hold anything or be gone. No other file changes.
+    fn replace(&mut self, name: &str, bytes: &[u8]) -> Result<(), Failed>
+        ensures faults { faults self.old ≤ faults self.new }
+        ensures replaced { OnOk result (Replaces (contents self.old) (contents self.new) name.now bytes.now) }
+        ensures failed { OnErr result (Rose (faults self.old) (faults self.new)) }
+        ensures others { OnErr result (OthersStay (contents self.old) (contents self.new) name.now) };
 }
 
 /// The length in bytes of the longest file that `read_all` gives.

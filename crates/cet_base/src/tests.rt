@@ -115,6 +115,32 @@ fn files(rt: HostRuntime) -> Result<(), Fail> {
     Ok(())
 }
 
+// A file is replaced in the room that was taken for it, once: a replacement uses the room up, whether it fits or not.
+#[test]
+fn replacements(rt: HostRuntime) -> Result<(), Fail> {
+    let mut files = MemFiles::new(rt.alloc());
+    files.put("a", b"old")?;
+    assert_eq!(rt; files.replace("a", b""), Err(Failed));
+    for (name, len, bytes, answer) in [
+        ("a", 5, "longer", Err(Failed)),
+        ("b", 0, "x", Err(Failed)),
+        ("b", 0, "", Ok(())),
+        ("c", 6, "longer", Ok(())),
+        ("c", 9, "short", Ok(())),
+    ] {
+        files.room(name, 100)?;
+        files.room(name, len)?;
+        let before = files.get(name).is_some();
+        assert_eq!(rt; files.replace(name, bytes.as_bytes()), answer);
+        assert_eq!(rt; files.get(name).is_some(), before || answer.is_ok());
+        assert_eq!(rt; holds(&files, name, bytes.as_bytes()), answer.is_ok());
+        assert_eq!(rt; files.replace(name, b""), Err(Failed));
+    }
+    assert!(rt; holds(&files, "a", b"old"));
+    assert!(rt; holds(&files, "c", b"short"));
+    Ok(())
+}
+
 #[test]
 fn whole_files(rt: HostRuntime) -> Result<(), Fail> {
     let mut files = MemFiles::new(rt.alloc());

@@ -2,7 +2,9 @@
 ghost use Rattle.std.specs.Prelude.{◌≡◌, ◌<◌, ◌↔◌, ℕ, [], ◌≤◌, length, IfOk, IsErrOf};
 ghost use Rattle.cet_rules.specs.Raw.{IsRaw, raw_start};
 
+use bitflags::Flags;
 use cet_base::{Bytes, NoMemory};
+use cet_note::Features;
 use cet_rules::{Function, FunctionList, Image, Segment, SegmentList};
 use std::alloc::Global;
 
@@ -23,7 +25,7 @@ pub const RAW_START: u64 = 0x401000;
 /// The most bytes of a segment.
 const SEGMENT_LIMIT: u64 = 16_777_216;
 
-/// The image of raw code: one segment and one function, of all the bytes.
+/// The image of raw code: one segment and one function, of all the bytes, no slots and both features.
 pub fn raw_image(alloc: Global, bytes: &[u8]) -> Result<Image, ImageError>
     ensures image { IfOk result (λ image. IsRaw image bytes.now) }
     ensures empty { IsErrOf result ImageError.Empty ↔ (bytes.now ≡ []) }
@@ -62,6 +64,8 @@ fn load(alloc: Global, bytes: &[u8]) -> Result<Image, NoMemory>
     Ok(Image {
         segments,
         functions,
+        slots: None,
         entry: RAW_START,
+        features: Features::all(),
     })
 }

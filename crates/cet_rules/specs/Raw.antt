@@ -1,5 +1,6 @@
 -- The raw form: code alone, without a file format around it.
-use Rattle.std.specs.Prelude.{◌≡◌, ℕ, List, [], ◌∷◌, length, true, false}
+use Rattle.std.specs.Prelude.{◌≡◌, ℕ, List, [], ◌∷◌, length, true, false, None}
+use Rattle.cet_note.specs.declared.feature_set.Features.{Features}
 use Rattle.cet_rules.specs.declared.segment.Segment.{Segment}
 use Rattle.cet_rules.specs.declared.function.Function.{Function}
 use Rattle.cet_rules.specs.declared.image.Image.{Image}
@@ -16,8 +17,15 @@ raw_segment bytes = record { start = raw_start; size = length bytes; readable = 
 abbrev pub raw_function : List ℕ → Function
 raw_function bytes = record { start = raw_start; size = length bytes }
 
--- the image is that of the raw bytes
+-- indirect branch tracking and shadow stacks, the two bits of GNU_PROPERTY_X86_FEATURE_1_AND that have names
+-- (System V x86-64 psABI, "Program Property")
+abbrev pub both_features : Features
+both_features = record { 0 = 3 }
+
+-- the image is that of the raw bytes: it has no fibers and both features
 pub record IsRaw (image : Image) (bytes : List ℕ) : Type 0 where
   pub segments : image.segments ≡ raw_segment bytes ∷ []
   pub functions : image.functions ≡ raw_function bytes ∷ []
+  pub slots : image.slots ≡ None
   pub entry : image.entry ≡ raw_start
+  pub features : image.features ≡ both_features

@@ -1,6 +1,16 @@
 use Rattle.std.proofs.Common.{arith}
 use Rattle.std.proofs.lemmas.Map.Text.{text_keys}
+use Rattle.std.proofs.Math.Path.{fun_ext}
 use Rattle.cet_base.proofs.mem_files.MemFiles.put.Goals as goal
 
-pub returns-clause-others : goal.returns-clause-others
-returns-clause-others c = λ other apart. grind (arith, text_keys)
+pub returns-in-Some-clause-others : goal.returns-in-Some-clause-others
+returns-in-Some-clause-others c = λ other apart. grind (arith, text_keys)
+
+pub returns-in-Some-clause-rooms : goal.returns-in-Some-clause-rooms
+returns-in-Some-clause-rooms c = fun_ext (λ other. grind (arith, text_keys))
+
+pub returns-in_ok-insert-in-None-clause-others : goal.returns-in_ok-insert-in-None-clause-others
+returns-in_ok-insert-in-None-clause-others c = λ other apart. grind (arith, text_keys)
+
+pub returns-in_ok-insert-in-None-clause-rooms : goal.returns-in_ok-insert-in-None-clause-rooms
+returns-in_ok-insert-in-None-clause-rooms c = fun_ext (λ other. grind (arith, text_keys))
