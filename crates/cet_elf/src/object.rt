@@ -13,7 +13,7 @@ pub enum Class {
     Write,
     /// SHT_NOBITS: zeros that are not stored.
     Zero,
-    /// SHT_GROUP, which is kept as a name and a place alone.
+    /// SHT_GROUP, loaded or not.
     Group,
 }
 
@@ -70,7 +70,7 @@ pub struct Section {
     pub align: u64,
     /// In bytes.
     pub size: u64,
-    /// The stored bytes: none in a section of class Zero or Group.
+    /// The stored bytes: none in a section of class Zero, and as many as its size in every other one, a group too.
     pub bytes: Bytes,
     pub relocations: RelaList,
 }
