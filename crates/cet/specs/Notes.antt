@@ -1,11 +1,13 @@
 -- Property notes in files, and the text that is printed of them.
-use Rattle.std.specs.Prelude.{ℕ, IsTrue, nat_eq, List, [], ◌∷◌, ◌++◌, map, codes, Option, Vec}
+use Rattle.std.specs.Prelude.{◌≡◌, ℕ, IsTrue, nat_eq, List, [], ◌∷◌, ◌++◌, map, codes, Option, unwrap_or, Vec, ◌⊎◌}
 use Rattle.std.specs.List.{flat_map, starts_with}
 use Rattle.std.specs.Global.{Global}
 use Rattle.byteorder.specs.Endian.{big_bytes}
 use Rattle.hex.specs.Hex.{encode_lower}
 use Rattle.cet_base.specs.Files.{Contents}
 use Rattle.cet_base.specs.Text.{line}
+use Rattle.cet_elf.specs.declared.object.Object.{Object}
+use Rattle.cet_elf.specs.ObjectFile.{IsObjectFile}
 use Rattle.cet_note.specs.Note.{Property, Note}
 use Rattle.cet_note.specs.Form.{IsForm}
 use Rattle.cet.specs.Held.{HoldsBytes}
@@ -16,9 +18,15 @@ use Rattle.cet.specs.Held.{HoldsBytes}
 abbrev pub BeginsElf : List ℕ → Type 0
 BeginsElf bytes = IsTrue (starts_with nat_eq bytes (0x7f ∷ codes "ELF"))
 
--- the bytes of a file are this note: no ELF file, and a form of the note. No bytes are the empty note
+-- the bytes of a file have these as its note: of an object those of its note section, or none where it has no such section, and of
+-- any other file all
+abbrev pub HasNoteBytes : List ℕ → List ℕ → Type 0
+HasNoteBytes bytes part =
+    (¬ BeginsElf bytes × (part ≡ bytes)) ⊎ (BeginsElf bytes × ((o : Object) × IsObjectFile bytes o × (part ≡ unwrap_or o.notes [])))
+
+-- the note of a file of these bytes. No bytes are the empty note
 abbrev pub IsFileNote : List ℕ → Note → Type 0
-IsFileNote bytes note = ¬ BeginsElf bytes × IsForm bytes note
+IsFileNote bytes note = (part : List ℕ) × HasNoteBytes bytes part × IsForm part note
 
 -- the bytes in each of these
 abbrev pub items_of : List (Vec ℕ Global) → List (List ℕ)

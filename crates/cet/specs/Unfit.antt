@@ -1,19 +1,22 @@
 -- Why a file is unfit for a command, and the line that says so.
-use Rattle.std.specs.Prelude.{◌≡◌, ℕ, ◌<◌, List, [], ◌++◌, length, Err, codes}
+use Rattle.std.specs.Prelude.{◌≡◌, ℕ, ◌<◌, List, [], ◌++◌, length, Some, Err, codes}
 use Rattle.std.specs.Fmt.{decimal}
 use Rattle.cet_base.specs.declared.reading.TheConstants.{FILE_LIMIT}
 use Rattle.cet_base.specs.Text.{line, hexadecimal}
 use Rattle.cet_isa.specs.declared.decode_error.DecodeError.{DecodeError}
 use Rattle.cet_isa.specs.declared.decode_error.DecodeError.TheVariants.{Short, Outside}
+use Rattle.cet_elf.specs.declared.error.ElfError.{ElfError}
+use Rattle.cet_elf.specs.declared.error.ElfError.TheVariants as elf
+use Rattle.cet_elf.specs.ObjectFile.{object_fault}
 use Rattle.cet_rules.specs.Raw.{raw_start}
 use Rattle.cet_listing.specs.Listing.{StopsAt}
 use Rattle.cet_note.specs.declared.fault.NoteError.{NoteError}
 use Rattle.cet_note.specs.declared.fault.NoteError.TheVariants as faults
 use Rattle.cet_note.specs.Fault.{note_in}
 use Rattle.cet.specs.declared.refusal.Unfit.{Unfit}
-use Rattle.cet.specs.declared.refusal.Unfit.TheVariants.{Empty, TooLarge, Elf, NoNote, NoForm}
+use Rattle.cet.specs.declared.refusal.Unfit.TheVariants.{Empty, TooLarge, NoObject, NoNote, NoForm}
 use Rattle.cet.specs.Command.{Command, CheckRaw, Dis, Notes}
-use Rattle.cet.specs.Notes.{BeginsElf}
+use Rattle.cet.specs.Notes.{BeginsElf, HasNoteBytes}
 
 -- the word for the fault of a note
 abbrev pub fault_word : NoteError → List ℕ
@@ -35,6 +38,34 @@ fault_place (faults.Order at) = at
 fault_place (faults.Twice at) = at
 fault_place faults.NoMemory = 0
 
+-- the word for the fault of an object
+abbrev pub elf_word : ElfError → List ℕ
+elf_word (elf.Magic at) = codes "magic"
+elf_word (elf.Class at) = codes "class"
+elf_word (elf.Machine at) = codes "machine"
+elf_word (elf.Kind at) = codes "kind"
+elf_word (elf.Bounds at) = codes "bounds"
+elf_word (elf.Name at) = codes "name"
+elf_word (elf.SymbolIndex at) = codes "symbolindex"
+elf_word (elf.RelaType at value) = codes "relatype"
+elf_word (elf.TooMany at) = codes "toomany"
+elf_word (elf.Unsupported at) = codes "unsupported"
+elf_word elf.NoMemory = codes "nomemory"
+
+-- the offset in the file of the field that has it
+abbrev pub elf_place : ElfError → ℕ
+elf_place (elf.Magic at) = at
+elf_place (elf.Class at) = at
+elf_place (elf.Machine at) = at
+elf_place (elf.Kind at) = at
+elf_place (elf.Bounds at) = at
+elf_place (elf.Name at) = at
+elf_place (elf.SymbolIndex at) = at
+elf_place (elf.RelaType at value) = at
+elf_place (elf.TooMany at) = at
+elf_place (elf.Unsupported at) = at
+elf_place elf.NoMemory = 0
+
 -- the word for why some bytes are no form
 abbrev pub no_form_word : DecodeError → List ℕ
 no_form_word Short = codes "short"
@@ -43,12 +74,14 @@ no_form_word Outside = codes "outside"
 abbrev pub reason : Unfit → List ℕ
 reason Empty = codes "empty"
 reason TooLarge = codes "toolarge"
-reason Elf = codes "elf"
+reason (NoObject fault) = elf_word fault
 reason (NoNote fault) = fault_word fault
 reason (NoForm at why) = no_form_word why
 
--- where: at the start of the file, at the offset of a note's fault, or at the address of the bytes that are no form
+-- where: at the start of the file, at the offset of a field in it, at that of a field in its note, or at the address of the bytes that are no
+-- form
 abbrev pub place : Unfit → List ℕ
+place (NoObject fault) = decimal (elf_place fault)
 place (NoNote fault) = decimal (fault_place fault)
 place (NoForm at why) = hexadecimal at
 place why = codes "0"
@@ -63,6 +96,6 @@ IsUnfitFor command TooLarge held = FILE_LIMIT < length held
 IsUnfitFor (CheckRaw file) Empty held = held ≡ []
 IsUnfitFor (Dis file) Empty held = held ≡ []
 IsUnfitFor (Dis file) (NoForm at why) held = StopsAt raw_start held at why
-IsUnfitFor (Notes files) Elf held = BeginsElf held
-IsUnfitFor (Notes files) (NoNote fault) held = ¬ BeginsElf held × (note_in held ≡ Err fault)
+IsUnfitFor (Notes files) (NoObject fault) held = BeginsElf held × (object_fault held ≡ Some fault)
+IsUnfitFor (Notes files) (NoNote fault) held = (part : List ℕ) × HasNoteBytes held part × (note_in part ≡ Err fault)
 IsUnfitFor command why held = ⊥

@@ -1,12 +1,16 @@
 //! `notes FILE...`: the property notes of files, and their merge.
 
-ghost use Rattle.std.specs.Prelude.{◌≡◌, ◌≤◌, ℕ, List, Option, length, map, Vec, IfOk, IfErr};
+ghost use Rattle.std.specs.Prelude.{◌≡◌, ◌≢◌, ◌≤◌, ℕ, List, [], Option, unwrap_or, length, map, Vec, IfOk, IfErr};
 ghost use Rattle.cet_base.specs.Faults.{Rose};
 ghost use Rattle.cet_base.specs.Files.{Contents, FileMeets};
 ghost use Rattle.cet_base.specs.Sink.{Gains};
 ghost use Rattle.cet.specs.Command.{Notes, texts};
 ghost use Rattle.cet.specs.Held.{HoldsBytes};
-ghost use Rattle.cet.specs.Notes.{IsFileNote, AllBoth, items_of};
+ghost use Rattle.cet_elf.specs.ObjectFile.{IsObjectFile};
+ghost use Rattle.cet_note.specs.Form.{IsForm};
+ghost use Rattle.cet.specs.Notes.{BeginsElf, HasNoteBytes, IsFileNote, AllBoth, items_of};
+ghost use Rattle.cet.specs.declared.refusal.Unfit.TheVariants.{NoNote, NoObject};
+ghost use Rattle.cet.specs.Unfit.{IsUnfitFor};
 ghost use Rattle.cet.specs.Steps.{Form};
 ghost use Rattle.cet.specs.Answer.{IsReport};
 ghost use Rattle.cet.specs.Refused.{HasCause, IsAtStep, IsOfFiles};
@@ -16,6 +20,7 @@ use crate::reading::read_file;
 use crate::refusal::{Refusal, Unfit};
 use crate::status;
 use cet_base::{Files, Sink, write_all};
+use cet_elf::{ElfError, Object, read_object};
 use cet_note::{NoteError, Props, merge, read_note};
 use std::alloc::Global;
 
@@ -40,20 +45,78 @@ fn read_files<'a, F: Files>(
     Ok(held)
 }
 
-// The note that the bytes of the file `name` are.
+// The refusal of the file `name` for the fault of the note that it has.
+fn no_note(name: &str, fault: NoteError) -> Refusal<'_>
+    ensures { (told : Option Contents) (before after : ℕ) (names : List (List ℕ))
+        → FileMeets told name.now (λ held. fault ≢ NoteError.NoMemory → IsUnfitFor (Notes names) (NoNote fault) held)
+        → IsAtStep told before after (Notes names) (Form name.now) result }
+{
+    match fault {
+        NoteError::NoMemory => Refusal::NoMemory,
+        _ => Refusal::Unfit(name, Unfit::NoNote(fault)),
+    }
+}
+
+// The refusal of the file `name` for the fault of the object that it is not.
+fn no_object(name: &str, fault: ElfError) -> Refusal<'_>
+    ensures { (told : Option Contents) (before after : ℕ) (names : List (List ℕ))
+        → FileMeets told name.now (λ held. fault ≢ ElfError.NoMemory → IsUnfitFor (Notes names) (NoObject fault) held)
+        → IsAtStep told before after (Notes names) (Form name.now) result }
+{
+    match fault {
+        ElfError::NoMemory => Refusal::NoMemory,
+        _ => Refusal::Unfit(name, Unfit::NoObject(fault)),
+    }
+}
+
+// The note that `part` is, which the file `name` has as its note.
+fn read_part<'a>(alloc: Global, name: &'a str, part: &[u8]) -> Result<Props, Refusal<'a>>
+    ensures note { IfOk result (IsForm part.now) }
+    ensures refused { IfErr result (λ refusal. (told : Option Contents) (before after : ℕ) (names : List (List ℕ))
+        → FileMeets told name.now (λ held. HasNoteBytes held part.now) → IsAtStep told before after (Notes names) (Form name.now) refusal) }
+{
+    match read_note(alloc, part) {
+        Ok(note) => Ok(note),
+        Err(fault) => Err(no_note(name, fault)),
+    }
+}
+
+// The object that the bytes of the file `name` are, which begin as an ELF file does.
+fn read_elf<'a>(alloc: Global, name: &'a str, bytes: &[u8]) -> Result<Object, Refusal<'a>>
+    requires { BeginsElf bytes.now }
+    ensures object { IfOk result (IsObjectFile bytes.now) }
+    ensures refused { IfErr result (λ refusal. (told : Option Contents) (before after : ℕ) (names : List (List ℕ))
+        → FileMeets told name.now (λ held. held ≡ bytes.now) → IsAtStep told before after (Notes names) (Form name.now) refusal) }
+{
+    match read_object(alloc, bytes) {
+        Ok(object) => Ok(object),
+        Err(fault) => Err(no_object(name, fault)),
+    }
+}
+
+// The note of an object.
+fn object_note<'a>(alloc: Global, name: &'a str, object: &Object) -> Result<Props, Refusal<'a>>
+    ensures note { IfOk result (IsForm (unwrap_or object.now.notes [])) }
+    ensures refused { IfErr result (λ refusal. (told : Option Contents) (before after : ℕ) (names : List (List ℕ))
+        → FileMeets told name.now (λ held. HasNoteBytes held (unwrap_or object.now.notes [])) → IsAtStep told before after (Notes names) (Form name.now) refusal) }
+{
+    match &object.notes {
+        Some(section) => read_part(alloc, name, section.as_slice()),
+        None => read_part(alloc, name, &[]),
+    }
+}
+
+// The note of the file `name`, from the bytes that it holds.
 fn read_form<'a>(alloc: Global, name: &'a str, bytes: &[u8]) -> Result<Props, Refusal<'a>>
     ensures note { IfOk result (IsFileNote bytes.now) }
     ensures refused { IfErr result (λ refusal. (told : Option Contents) (before after : ℕ) (names : List (List ℕ))
         → FileMeets told name.now (λ held. held ≡ bytes.now) → IsAtStep told before after (Notes names) (Form name.now) refusal) }
 {
-    if bytes.starts_with(b"\x7fELF") {
-        return Err(Refusal::Unfit(name, Unfit::Elf));
+    if !bytes.starts_with(b"\x7fELF") {
+        return read_part(alloc, name, bytes);
     }
-    match read_note(alloc, bytes) {
-        Ok(note) => Ok(note),
-        Err(NoteError::NoMemory) => Err(Refusal::NoMemory),
-        Err(fault) => Err(Refusal::Unfit(name, Unfit::NoNote(fault))),
-    }
+    let object = read_elf(alloc, name, bytes)?;
+    object_note(alloc, name, &object)
 }
 
 // The note of each file, from the bytes that it holds.

@@ -5,10 +5,11 @@ ghost use Rattle.std.specs.String.{string_bytes};
 ghost use Rattle.cet_base.specs.Text.{hexadecimal};
 ghost use Rattle.cet.specs.Answer.{GainsOrFails};
 ghost use Rattle.cet.specs.Text.{file_line as line_of_file};
-ghost use Rattle.cet.specs.Unfit.{reason, place as place_of, bad_line, fault_word as word_of, no_form_word as word_of_no_form, fault_place as offset_of};
+ghost use Rattle.cet.specs.Unfit.{reason, place as place_of, bad_line, elf_word as word_of_elf, elf_place as place_in_file, fault_word as word_of, no_form_word as word_of_no_form, fault_place as offset_of};
 
 use crate::status;
 use cet_base::{NoMemory, Sink, write_all};
+use cet_elf::ElfError;
 use cet_isa::DecodeError;
 use cet_note::NoteError;
 use std::alloc::{AllocError, Global};
@@ -20,12 +21,50 @@ pub enum Unfit {
     Empty,
     /// It is longer than is read.
     TooLarge,
-    /// It begins as an ELF file does, where a property note is asked for.
-    Elf,
-    /// It is no property note, for this fault.
+    /// It begins as an ELF file does and is no object, for this fault, where an object is asked for.
+    NoObject(ElfError),
+    /// What it has as its property note is none, for this fault.
     NoNote(NoteError),
     /// The bytes at an address are no instruction, for this reason, where a listing is asked for.
     NoForm { at: u64, why: DecodeError },
+}
+
+// The word for the fault of an object.
+fn elf_word(fault: ElfError) -> &'static str
+    ensures { result.now ≡ word_of_elf fault }
+{
+    match fault {
+        ElfError::Magic { .. } => "magic",
+        ElfError::Class { .. } => "class",
+        ElfError::Machine { .. } => "machine",
+        ElfError::Kind { .. } => "kind",
+        ElfError::Bounds { .. } => "bounds",
+        ElfError::Name { .. } => "name",
+        ElfError::SymbolIndex { .. } => "symbolindex",
+        ElfError::RelaType { .. } => "relatype",
+        ElfError::TooMany { .. } => "toomany",
+        ElfError::Unsupported { .. } => "unsupported",
+        ElfError::NoMemory => "nomemory",
+    }
+}
+
+// The offset in the file of the field that has it.
+fn elf_place(fault: ElfError) -> u64
+    ensures { result ≡ place_in_file fault }
+{
+    match fault {
+        ElfError::Magic { at }
+        | ElfError::Class { at }
+        | ElfError::Machine { at }
+        | ElfError::Kind { at }
+        | ElfError::Bounds { at }
+        | ElfError::Name { at }
+        | ElfError::SymbolIndex { at }
+        | ElfError::RelaType { at, .. }
+        | ElfError::TooMany { at }
+        | ElfError::Unsupported { at } => at,
+        ElfError::NoMemory => 0,
+    }
 }
 
 // The word for the fault of a note.
@@ -82,7 +121,7 @@ impl Unfit {
         match self {
             Unfit::Empty => "empty",
             Unfit::TooLarge => "toolarge",
-            Unfit::Elf => "elf",
+            Unfit::NoObject(fault) => elf_word(fault),
             Unfit::NoNote(fault) => fault_word(fault),
             Unfit::NoForm { why, .. } => no_form_word(why),
         }
@@ -92,6 +131,7 @@ impl Unfit {
         ensures { IfOk result (λ text. string_bytes text ≡ place_of self) }
     {
         match self {
+            Unfit::NoObject(fault) => elf_place(fault).to_string(alloc),
             Unfit::NoNote(fault) => fault_place(fault).to_string(alloc),
             Unfit::NoForm { at, .. } => address(at, alloc),
             _ => String::from_str(alloc, "0"),

@@ -70,20 +70,28 @@ fn reports(rt: HostRuntime) -> Result<(), Fail> {
             "",
             0,
         ),
-        // An ELF file, and one that only begins like one.
+        // What begins as an ELF file and ends in its header, and what only nearly does.
         (
             b"\x7fELF\x02\x01",
             b"",
             b"",
             A,
             "",
-            "cet: bad a at 0: elf\n",
+            "cet: bad a at 0: bounds\n",
             6,
         ),
         (b"\x7fEL", b"", b"", A, "", "cet: bad a at 0: cut\n", 6),
         // The first file in the order of the words counts.
         (FULL, CUT, b"\x7fELF", ABC, "", "cet: bad b at 24: cut\n", 6),
-        (b"", b"\x7fELF", CUT, ABC, "", "cet: bad b at 0: elf\n", 6),
+        (
+            b"",
+            b"\x7fELF",
+            CUT,
+            ABC,
+            "",
+            "cet: bad b at 0: bounds\n",
+            6,
+        ),
     ];
     for (a, b, c, words, report, line, status) in rows {
         let mut files = MemFiles::new(rt.alloc());
@@ -141,6 +149,52 @@ fn faults(rt: HostRuntime) -> Result<(), Fail> {
         assert_eq!(rt; answer.err.bytes(), line.as_bytes());
         assert_eq!(rt; answer.out.bytes(), b"".as_slice());
         assert_eq!(rt; answer.status, 6);
+    }
+    Ok(())
+}
+
+// An object whose sections are the null one, `.note.gnu.property` with the bytes of FULL at 64, and the names of sections at 96; their headers
+// stand at 128. `readelf` names the note `IBT, SHSTK`.
+const OBJECT: &[u8; 320] =
+    b"\x7fELF\x02\x01\x01\0\0\0\0\0\0\0\0\0\x01\0>\0\x01\0\0\0\0\0\0\0\0\0\0\0\0\0\0\0\0\0\0\0\x80\0\0\0\0\0\0\0\0\0\0\0@\0\0\0\0\0@\0\x03\0\x02\0\x04\0\0\0\x10\0\0\0\x05\0\0\0GNU\0\x02\0\0\xc0\x04\0\0\0\x03\0\0\0\0\0\0\0\0.note.gnu.property\0.shstrtab\0\0\0\0\0\0\0\0\0\0\0\0\0\0\0\0\0\0\0\0\0\0\0\0\0\0\0\0\0\0\0\0\0\0\0\0\0\0\0\0\0\0\0\0\0\0\0\0\0\0\0\0\0\0\0\0\0\0\0\0\0\0\0\0\0\0\0\x01\0\0\0\x07\0\0\0\x02\0\0\0\0\0\0\0\0\0\0\0\0\0\0\0@\0\0\0\0\0\0\0 \0\0\0\0\0\0\0\0\0\0\0\0\0\0\0\x08\0\0\0\0\0\0\0\0\0\0\0\0\0\0\0\x14\0\0\0\x03\0\0\0\0\0\0\0\0\0\0\0\0\0\0\0\0\0\0\0`\0\0\0\0\0\0\0\x1e\0\0\0\0\0\0\0\0\0\0\0\0\0\0\0\x01\0\0\0\0\0\0\0\0\0\0\0\0\0\0\0";
+
+// The columns: a place in OBJECT and the byte put there, the output, the line on standard error, the status.
+#[test]
+fn objects(rt: HostRuntime) -> Result<(), Fail> {
+    let rows: [(usize, u8, &str, &str, u8); 9] = [
+        (
+            0,
+            0x7f,
+            "a: 0xc0000002=0x00000003\nmerged: 0xc0000002=0x00000003\n",
+            "",
+            0,
+        ),
+        // The other feature alone, and a section of the name that is no note.
+        (
+            88,
+            1,
+            "a: 0xc0000002=0x00000001\nmerged: 0xc0000002=0x00000001\n",
+            "",
+            0,
+        ),
+        (196, 1, "a: none\nmerged: none\n", "", 0),
+        // An executable, another machine, section headers past the end of the file, and a note past it.
+        (16, 2, "", "cet: bad a at 16: kind\n", 6),
+        (18, 3, "", "cet: bad a at 18: machine\n", 6),
+        (40, 0x81, "", "cet: bad a at 40: bounds\n", 6),
+        (225, 2, "", "cet: bad a at 216: bounds\n", 6),
+        // Faults of the note, counted in the note.
+        (64, 5, "", "cet: bad a at 0: name\n", 6),
+        (224, 0x1b, "", "cet: bad a at 24: cut\n", 6),
+    ];
+    for (place, byte, out, err, status) in rows {
+        let mut bytes = *OBJECT;
+        bytes[place] = byte;
+        let mut files = holding(rt.alloc(), &bytes)?;
+        let answer = run(rt.alloc(), A, &mut files, 100, 100)?;
+        assert_eq!(rt; answer.err.bytes(), err.as_bytes());
+        assert_eq!(rt; answer.out.bytes(), out.as_bytes());
+        assert_eq!(rt; answer.status, status);
     }
     Ok(())
 }
