@@ -4,7 +4,11 @@
 #![tactic(auto)]
 
 mod action;
+pub mod machine_law;
 mod memory;
+pub mod memory_law;
+mod shadow_fault;
 
 pub use action::Action;
 pub use memory::{Kind, Region};
+pub use shadow_fault::ShadowFault;

@@ -1,0 +1,14 @@
+pub mod Examples
+pub mod MemoryBytes
+pub mod MemoryPlace
+pub mod MemoryReads
+pub mod MemoryRegions
+pub mod Registers
+pub mod Keeps
+pub mod Effects
+pub mod Transfers
+pub mod StepKeeps
+pub mod Fits
+pub mod Words
+pub mod EffectWords
+pub mod TransferWords

@@ -1,0 +1,11 @@
+pub mod Examples
+pub mod Regions
+pub mod Far
+pub mod Kept
+pub mod Events
+pub mod Inserted
+pub mod Loaded
+pub mod Started
+pub mod Numbers
+pub mod CallWords
+pub mod EventWords
