@@ -1,0 +1,4 @@
+pub mod Results
+pub mod Rotations
+pub mod SignedProduct
+pub mod SignedQuotient
