@@ -1,0 +1,4 @@
+pub mod Access
+pub mod Block
+pub mod Holder
+pub mod Order
