@@ -1,1 +1,4 @@
-pub mod Regions
+pub mod Aligned
+pub mod Calls
+pub mod Quotients
+pub mod Syscalls

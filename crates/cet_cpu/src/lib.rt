@@ -1,11 +1,17 @@
-//! One step of the machine, computed as the definition `step` of `cet_small_machine` says.
-//! Instructions are fetched from regions of code, decoded by `cet_decode`, and carried out on the registers and the tracker.
+//! One step of the machine, computed: the result and the new state are those of the definition `step` of `cet_machine` (`specs/Step.antt`).
+//! Each family of instructions stands in a file of its own, as its definition does. A fault is answered before anything is written.
 #![tactic(auto)]
 
+mod arithmetic;
+mod control;
 mod execute;
-mod fetch;
+mod moves;
+mod one_step;
+mod operand;
+mod shadow;
+mod stack;
+mod system;
 #[cfg(test)]
 mod tests;
 
-pub use cet_small_machine::{Kind, Memory, Region, Regs, State};
-pub use execute::step;
+pub use one_step::{StepEnd, step};

@@ -1,67 +1,167 @@
-//! Programs that run to their end. What they end by follows from the definition of the tracker in the SDM.
-use crate::{Kind, Memory, Region, Regs, State, step};
-use cet_base::{Bytes, NoMemory};
-use cet_isa::Fault;
-use std::alloc::Global;
-use std::test::Fail;
+//! Steps over raw code. The code is what GNU as makes of the text above a row; the states follow from the SDM's page of the instruction.
+//! Flags that an instruction leaves undefined come out clear.
+mod data;
+mod transfers;
 
-fn code(alloc: Global, bytes: &[u8]) -> Result<Memory, NoMemory> {
+use crate::operand::with_value;
+use crate::{StepEnd, step};
+use cet_isa::{Flags, Mode, Reg, Regs};
+use cet_mem::{Kind, MapError, Memory};
+use std::alloc::Global;
+
+const CODE: u64 = 0x401000;
+
+const DATA: u64 = 0x403000;
+
+const SHADOW: u64 = 0x405000;
+
+const OFF: Mode = Mode {
+    ibt: false,
+    shstk: false,
+};
+
+const IBT: Mode = Mode {
+    ibt: true,
+    shstk: false,
+};
+
+const SHSTK: Mode = Mode {
+    ibt: false,
+    shstk: true,
+};
+
+/// A part of the state of a thread and its memory. Flags are CF 1, ZF 2, SF 4 and OF 8.
+#[derive(Clone, Copy)]
+enum Part {
+    Reg(Reg, u64),
+    Rip(u64),
+    Ssp(u64),
+    Flags(u8),
+    Waiting(bool),
+    Word(u64, u64),
+}
+
+/// The code at rip; what of CET is on; how many steps; where the state before them is not the usual one; how the last step ends, the others
+/// being at the next instruction; and what is different after them.
+type Row = (
+    &'static [u8],
+    Mode,
+    u32,
+    &'static [Part],
+    StepEnd,
+    &'static [Part],
+);
+
+fn flags(n: u8) -> Flags {
+    Flags {
+        cf: n & 1 == 1,
+        zf: n & 2 == 2,
+        sf: n & 4 == 4,
+        of: n & 8 == 8,
+    }
+}
+
+fn with_part(regs: Regs, part: Part) -> Regs {
+    match part {
+        Part::Reg(reg, v) => with_value(regs, reg, v),
+        Part::Rip(rip) => Regs { rip, ..regs },
+        Part::Ssp(ssp) => Regs { ssp, ..regs },
+        Part::Flags(n) => Regs {
+            flags: flags(n),
+            ..regs
+        },
+        Part::Waiting(waiting) => Regs { waiting, ..regs },
+        Part::Word(..) => regs,
+    }
+}
+
+fn with_parts(regs: Regs, parts: &[Part]) -> Regs {
+    let mut changed = regs;
+    for part in parts {
+        changed = with_part(changed, *part);
+    }
+    changed
+}
+
+/// Each stack is half full, and every word is 0.
+fn usual() -> Regs {
+    let zero = Regs {
+        r: [0; 16],
+        rip: CODE,
+        flags: flags(0),
+        waiting: false,
+        ssp: SHADOW + 0x800,
+        mask: 0,
+    };
+    with_value(zero, Reg::Rsp, DATA + 0x800)
+}
+
+fn pages(alloc: Global) -> Result<Memory, MapError> {
     let mut memory = Memory::new(alloc);
-    memory.push(Region {
-        start: 0x401000,
-        kind: Kind::Code,
-        bytes: Bytes::from_slice(alloc, bytes)?,
-    })?;
+    memory.place(CODE, 4096, Kind::Code)?;
+    memory.place(DATA, 4096, Kind::Write)?;
+    memory.place(SHADOW, 4096, Kind::Shadow)?;
     Ok(memory)
 }
 
-// The columns: the code, how many steps, and the state after them.
-#[test]
-fn ends(rt: HostRuntime) -> Result<(), Fail> {
-    let loops = State::Running(Regs {
-        rip: 0x401000,
-        rax: 0,
-        waiting: false,
-    });
-    let rows: [(&[u8], u32, State); 7] = [
-        // The jump lands on no ENDBR64, and on one.
-        (
-            b"\xb8\x07\x10\x40\x00\xff\xe0\x90\x0f\x0b",
-            3,
-            State::Ended(Fault::EndBranch),
-        ),
-        (
-            b"\xb8\x07\x10\x40\x00\xff\xe0\xf3\x0f\x1e\xfa\x0f\x0b",
-            4,
-            State::Ended(Fault::Undefined),
-        ),
-        // The code ends inside the ENDBR64 that it lands on, right before it, and inside another form.
-        (
-            b"\xb8\x07\x10\x40\x00\xff\xe0\xf3\x0f\x1e",
-            3,
-            State::Ended(Fault::EndBranch),
-        ),
-        (
-            b"\xb8\x07\x10\x40\x00\xff\xe0",
-            3,
-            State::Ended(Fault::Page { addr: 0x401007 }),
-        ),
-        (
-            b"\x90\xf3\x0f\x1e",
-            2,
-            State::Ended(Fault::Page { addr: 0x401004 }),
-        ),
-        // Bytes that are no form, and a program that does not end.
-        (b"\x90\x06", 9, State::Ended(Fault::Undefined)),
-        (b"\xeb\xfe", 9, loops),
-    ];
-    for (bytes, steps, end) in rows {
-        let memory = code(rt.alloc(), bytes)?;
-        let mut state = loops;
-        for _ in 0..steps {
-            state = step(&memory, state);
-        }
-        assert_eq!(rt; state, end, "for {bytes:?}");
+/// Writes the code, where there is a region to hold it, and the words.
+fn fill(memory: &mut Memory, rip: u64, code: &[u8], parts: &[Part]) {
+    if !code.is_empty() {
+        let _ = memory.fill(rip, code);
     }
-    Ok(())
+    for part in parts {
+        if let Part::Word(a, word) = part {
+            let _ = memory.fill(*a, &word.to_le_bytes());
+        }
+    }
+}
+
+/// The end of the last of so many steps, if each before it ends at the next instruction.
+fn run(memory: &mut Memory, regs: &mut Regs, mode: Mode, steps: u32) -> Option<StepEnd> {
+    for _ in 1..steps {
+        if regs.ssp % 8 != 0 || step(memory, regs, mode, 0) != StepEnd::Next {
+            return None;
+        }
+    }
+    if regs.ssp % 8 == 0 {
+        Some(step(memory, regs, mode, 0))
+    } else {
+        None
+    }
+}
+
+/// The first word that is not as the parts have it.
+fn other_word(memory: &Memory, parts: &[Part]) -> Option<u64> {
+    for part in parts {
+        if let Part::Word(a, word) = part {
+            if memory.load(*a, 8) != Ok(*word) {
+                return Some(*a);
+            }
+        }
+    }
+    None
+}
+
+#[test]
+fn steps(rt: HostRuntime) {
+    for rows in [
+        data::moves(),
+        data::arithmetic(),
+        data::stack(),
+        transfers::control(),
+        transfers::tracker(),
+        transfers::shadow(),
+        transfers::programs(),
+    ] {
+        for (code, mode, steps, before, end, after) in rows {
+            let start = with_parts(usual(), before);
+            let mut memory = pages(rt.alloc()).expect(&rt, "memory");
+            fill(&mut memory, start.rip, code, before);
+            let mut regs = start;
+            let ended = run(&mut memory, &mut regs, *mode, *steps);
+            assert_eq!(rt; ended, Some(*end), "the end of {code:?}");
+            assert_eq!(rt; regs, with_parts(start, after), "after {code:?}");
+            assert_eq!(rt; other_word(&memory, after), None, "after {code:?}");
+        }
+    }
 }

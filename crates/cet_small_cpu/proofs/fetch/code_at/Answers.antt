@@ -2,8 +2,8 @@ use Rattle.std.proofs.Common.{ℕ, ◌-◌, drop, sym, ap, ◌∙◌, arith}
 use Rattle.std.proofs.lemmas.List.{take_rest}
 use Rattle.cet_small_machine.specs.declared.memory.Kind.{Kind}
 use Rattle.cet_small_machine.specs.Memory.{if_code}
-use Rattle.cet_cpu.proofs.Regions.{code_here, code_further, no_code, not_code}
-use Rattle.cet_cpu.proofs.fetch.code_at.Goals as goal
+use Rattle.cet_small_cpu.proofs.Regions.{code_here, code_further, no_code, not_code}
+use Rattle.cet_small_cpu.proofs.fetch.code_at.Goals as goal
 
 pub returns-in-Code : goal.returns-in-Code
 returns-in-Code c =
