@@ -1,0 +1,3 @@
+pub mod ExecFile
+pub mod ExecSymbols
+pub mod Programs
