@@ -1,0 +1,11 @@
+pub mod Instruction
+pub mod Keyword
+pub mod Loading
+pub mod Lines
+pub mod Name
+pub mod Number
+pub mod Operand
+pub mod Operands
+pub mod Pieces
+pub mod Statement
+pub mod Word
