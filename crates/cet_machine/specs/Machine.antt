@@ -1,5 +1,5 @@
--- What an instruction works on: the memory of the process and the registers of one thread. What is refused is a fault alone, so that
--- nothing can have changed.
+-- What an instruction works on: the memory of the process and the registers of one thread (SDM volume 1, 3.2.1). What is refused is a fault
+-- alone, so that nothing can have changed: the state is the one before the instruction (SDM volume 3, "Exception Classifications", faults).
 use Rattle.std.specs.Prelude.{ℕ, ◌+◌, ◌-◌, ◌%◌, ◌^◌, List, ℤ, Bool, if◌then◌else◌, Result, Ok, Err}
 use Rattle.std.specs.Int.{w64, cast_unsigned}
 use Rattle.cet_isa.specs.declared.fault.Fault.{Fault}
@@ -11,7 +11,7 @@ pub record Machine : Type 0 where
   pub memory : List Region
   pub regs : Regs
 
--- what an instruction comes to
+-- what an instruction comes to: a new machine, or a fault
 abbrev pub Effect : Type 0
 Effect = Result Machine Fault
 

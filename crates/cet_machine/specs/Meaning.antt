@@ -1,5 +1,6 @@
--- What each instruction does, where rip already is the address of the next one. `mode` says what of CET is on, and `free` has the flags
--- that an instruction leaves undefined. A LOCK prefix changes nothing: every instruction is one step.
+-- What each instruction does (SDM volume 1, 5.1 and 5.23; volume 2, the page of each), where rip already is the address of the next one.
+-- `mode` says what of CET is on, and `free` has the flags that an instruction leaves undefined. A LOCK prefix (SDM volume 3, "Locked Atomic
+-- Operations") changes nothing: every instruction is one step.
 use Rattle.std.specs.Prelude.{ℕ}
 use Rattle.cet_isa.specs.declared.instruction.Insn.{Insn}
 use Rattle.cet_isa.specs.declared.instruction.Insn.TheVariants.{EndBr64, Nop, Mov, MovLoad, MovImm, MovAbs, MovZx, MovSx, MovSxd, Lea, Alu, AluLoad, AluImm, Test, TestImm, Unary, Shift, IMul2, IMul3, MulDiv, Cdq, Cdqe, Push, Pop, PushImm, PushMem, Call, CallInd, JmpInd, Jmp, Jcc, SetCc, CMov, Ret, Leave, Xchg, CmpXchg, XAdd, RdSsp, IncSsp, RstorSsp, SavePrevSsp, WrSs, Syscall, Ud2, Hlt}

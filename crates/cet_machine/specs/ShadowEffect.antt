@@ -1,4 +1,5 @@
--- The operations on the shadow stack, as an instruction of a thread makes them.
+-- The operations on the shadow stack, as an instruction of a thread makes them, and the exceptions that their refusals are (SDM volume 1,
+-- chapter "Control-flow Enforcement Technology (CET)", "Shadow Stacks"; volume 3, interrupts 13, 14 and 21).
 use Rattle.std.specs.Prelude.{ℕ, Result, Ok, Err, List}
 use Rattle.cet_isa.specs.declared.fault.Fault.{Fault}
 use Rattle.cet_isa.specs.declared.fault.Fault.TheVariants.{Page, General, Rstor}

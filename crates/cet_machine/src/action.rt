@@ -1,4 +1,4 @@
-/// What a process does at a signal: the record that rt_sigaction registers.
+/// What a process does at a signal: the record that rt_sigaction registers (Linux, `sigaction(2)`).
 #[derive(Clone, Copy, Debug, PartialEq, Eq)]
 pub struct Action {
     /// The address of the handler.

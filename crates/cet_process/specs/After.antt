@@ -1,4 +1,6 @@
--- What one event does to a process, and what it comes to.
+-- What one event does to a process, and what it comes to. A fault ends the process as its default action does (Linux, signal(7), SIGSEGV, SIGILL
+-- and SIGFPE), exit(2) a thread, exit_group(2) all of them; a signal is delivered as sigaction(2) says, and where it would not be, the
+-- event is ignored: this project's own.
 use Rattle.std.specs.Prelude.{ℕ, ◌-◌, ◌%◌, ◌==◌, Bool, nat_lt, if◌then◌else◌, Option, Some, None, is_some, is_none, Result, Ok, Err}
 use Rattle.std.specs.List.{list_all}
 use Rattle.cet_isa.specs.declared.register.Reg.TheVariants.{Rax, Rdi}

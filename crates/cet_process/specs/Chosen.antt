@@ -1,4 +1,4 @@
--- How the events of a run are chosen: given ones first, and then by plans.
+-- How the events of a run are chosen: given ones first, and then by plans. All of it is this project's own; no scheduler of a kernel is modelled.
 use Rattle.std.specs.Prelude.{ℕ, zero, suc, ◌+◌, nat_lt, List, [], ◌∷◌, find, Bool, true, ◌&&◌, if◌then◌else◌, Option, Some, None, option_map, is_some}
 use Rattle.cet_machine.specs.Arithmetic.{bit}
 use Rattle.cet_process.specs.declared.event.Event.{Event}

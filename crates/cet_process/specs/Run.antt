@@ -1,4 +1,5 @@
--- Runs: the states that a list of events leads to.
+-- Runs: the states that a list of events leads to. Events are this project's own: each schedule of threads and signals is a list of them. What a
+-- control-protection fault is, is the SDM's (volume 3, "Interrupt 21 - Control Protection Exception (#CP)").
 use Rattle.std.specs.Prelude.{ℕ, ◌^◌, ◌<◌, List, [], ◌∷◌, take, All, Bool, true, false, IsTrue, Option, Some, None, option_map}
 use Rattle.cet_isa.specs.declared.fault.Fault.{Fault}
 use Rattle.cet_isa.specs.declared.fault.Fault.TheVariants.{NearRet, EndBranch, Rstor, Page, Undefined, General, Divide}
@@ -30,7 +31,7 @@ state image input events = option_map (λ S. state_after S events) (start image 
 
 -- ---- control protection
 
--- vector 21 (#CP): NEAR-RET, ENDBRANCH and RSTORSSP (SDM volume 3, 6.15)
+-- vector 21 (#CP), with the error codes NEAR-RET, ENDBRANCH and RSTORSSP
 abbrev pub is_control_protection : Fault → Bool
 is_control_protection (NearRet popped shadow) = true
 is_control_protection EndBranch = true

@@ -1,4 +1,6 @@
--- How an image is loaded. Places and sizes of the stacks are this project's own.
+-- How an image is loaded: each segment in whole pages (gABI, chapter "Program Loading and Dynamic Linking", "Program Header" and "Program Loading"),
+-- the main stack as the psABI has it (System V ABI for AMD64, "Process Initialization"), the main shadow stack as Linux makes one
+-- (Documentation/arch/x86/shstk.rst). Places and sizes of the stacks, and refusing segments that share a page, are this project's own.
 use Rattle.std.specs.Prelude.{ℕ, ◌+◌, ◌-◌, ◌*◌, ◌/◌, ◌^◌, nat_lt, nat_le, max, min, List, [], ◌∷◌, ◌++◌, map, fold, find, replicate, Bool, false, not, ◌&&◌, if◌then◌else◌, Option, Some, None, is_none}
 use Rattle.cet_isa.specs.declared.register.Reg.TheVariants.{Rsp}
 use Rattle.cet_isa.specs.declared.registers.Regs.{Regs}

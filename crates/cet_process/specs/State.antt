@@ -1,4 +1,5 @@
--- A process: its memory, its threads, and what the kernel keeps of it.
+-- A process: its memory, its threads, and what the kernel keeps of it (Linux: clone(2), sigaction(2), read(2) and write(2) for the parts; CET is
+-- locked on as in Documentation/arch/x86/shstk.rst, "Application Enabling"). The one input, the one output and `fresh` are this project's own.
 use Rattle.std.specs.Prelude.{ℕ, ◌+◌, ◌-◌, ◌*◌, ◌==◌, if◌then◌else◌, List, [], ◌∷◌, length, slice_get, slice_set, Option, None, is_some, option_and_then}
 use Rattle.std.specs.Int.{from_bool}
 use Rattle.cet_isa.specs.declared.registers.Regs.{Regs}
