@@ -7,7 +7,7 @@ use Rattle.std.proofs.lemmas.List.Elements.{All-get_or}
 use Rattle.std.proofs.lemmas.List.Sums.{sum_by-cons}
 use Rattle.cet_elf.specs.Below.{each_below, count_below, sum_below, first_below}
 
-each-shift : {X : Type 0} (n : ℕ) (f : ℕ → List X) → each_below (suc n) f ≡ f 0 ++ each_below n (λ k. f (suc k))
+pub each-shift : {X : Type 0} (n : ℕ) (f : ℕ → List X) → each_below (suc n) f ≡ f 0 ++ each_below n (λ k. f (suc k))
 each-shift zero f = sym (append-nil (f 0))
 each-shift {X = X} (suc n) f =
     ap (λ (r : List X). r ++ f (suc n)) (each-shift n f) ∙ append_assoc (f 0) (each_below n (λ k. f (suc k))) (f (suc n))

@@ -115,7 +115,7 @@ class_numbers classes.Write = (lit< tt, lit< tt)
 class_numbers classes.Zero = (lit< tt, lit< tt)
 class_numbers classes.Group = (lit< tt, lit< tt)
 
-locals_end-le : (xs : List Symbol) → locals_end xs ≤ length xs
+pub locals_end-le : (xs : List Symbol) → locals_end xs ≤ length xs
 locals_end-le [] = omega arith
 locals_end-le (x ∷ xs) = go (ltb 0 (locals_end xs)) (is_local x.bind) (locals_end-le xs)
   where

@@ -102,13 +102,13 @@ symbol_place-is b o k h =
 
 -- ---- an entry and its name
 
-record SymbolSits (content table : List ℕ) (at : ℕ) (s : Symbol) : Type 0 where
-  name_at : ℕ
-  entry : Stands content at (symbol_bytes name_at s)
-  name : Named table (name_offset s.name name_at) s.name
-  inside : name_at ≤ length table
+pub record SymbolSits (content table : List ℕ) (at : ℕ) (s : Symbol) : Type 0 where
+  pub name_at : ℕ
+  pub entry : Stands content at (symbol_bytes name_at s)
+  pub name : Named table (name_offset s.name name_at) s.name
+  pub inside : name_at ≤ length table
 
-symbol-sits : (table zeros : List ℕ) (xs : List Symbol) (name_at k : ℕ) → table ≡ 0 ∷ zeros → drop name_at table ≡ names_of xs → name_at ≤ length table → k < length xs
+pub symbol-sits : (table zeros : List ℕ) (xs : List Symbol) (name_at k : ℕ) → table ≡ 0 ∷ zeros → drop name_at table ≡ names_of xs → name_at ≤ length table → k < length xs
     → SymbolSits (symbol_entries name_at xs) table (24 * k) (get_or xs k null_symbol)
 symbol-sits table zeros [] name_at k first all le lt = absurd (omega arith)
 symbol-sits table zeros (x ∷ xs) name_at zero first all le lt = record {
@@ -143,10 +143,10 @@ info-small binds.Weak kinds.Object = lit< tt
 info-small binds.Weak kinds.Func = lit< tt
 info-small binds.Weak kinds.Section = lit< tt
 
-abbrev entry_of : ℕ → Symbol → SymbolEntry
+abbrev pub entry_of : ℕ → Symbol → SymbolEntry
 entry_of name s = record { name = name; info = bind_number s.bind * 16 + kind_number s.kind; section = section_number s.place; value = s.value; size = s.size }
 
-symbol-read : (b : List ℕ) (at name_at : ℕ) (s : Symbol) → name_offset s.name name_at < 2 ^ 32 → section_number s.place < 2 ^ 16 → s.value < 2 ^ 64 → s.size < 2 ^ 64
+pub symbol-read : (b : List ℕ) (at name_at : ℕ) (s : Symbol) → name_offset s.name name_at < 2 ^ 32 → section_number s.place < 2 ^ 16 → s.value < 2 ^ 64 → s.size < 2 ^ 64
     → Stands b at (symbol_bytes name_at s) → symbol_entry b at ≡ entry_of (name_offset s.name name_at) s
 unfolding symbol_entry
 symbol-read b at name_at s name place value size h =
@@ -162,7 +162,7 @@ symbol-read b at name_at s name place value size h =
 
 -- ---- the values of an entry
 
-type-is : (bind : Bind) (kind : SymbolKind) → (bind_number bind * 16 + kind_number kind) % 16 ≡ kind_number kind
+pub type-is : (bind : Bind) (kind : SymbolKind) → (bind_number bind * 16 + kind_number kind) % 16 ≡ kind_number kind
 type-is binds.Local kinds.None = refl
 type-is binds.Local kinds.Object = refl
 type-is binds.Local kinds.Func = refl
@@ -176,7 +176,7 @@ type-is binds.Weak kinds.Object = refl
 type-is binds.Weak kinds.Func = refl
 type-is binds.Weak kinds.Section = refl
 
-bind-is : (bind : Bind) (kind : SymbolKind) → (bind_number bind * 16 + kind_number kind) / 16 ≡ bind_number bind
+pub bind-is : (bind : Bind) (kind : SymbolKind) → (bind_number bind * 16 + kind_number kind) / 16 ≡ bind_number bind
 bind-is binds.Local kinds.None = refl
 bind-is binds.Local kinds.Object = refl
 bind-is binds.Local kinds.Func = refl
@@ -196,19 +196,19 @@ no_file kinds.Object = (refl, refl)
 no_file kinds.Func = (refl, refl)
 no_file kinds.Section = (refl, refl)
 
-known_bind : (bind : Bind) → ltb (bind_number bind) 3 ≡ true
+pub known_bind : (bind : Bind) → ltb (bind_number bind) 3 ≡ true
 known_bind binds.Local = refl
 known_bind binds.Global = refl
 known_bind binds.Weak = refl
 
-kind_of-is : (kind : SymbolKind) → kind_of (kind_number kind) ≡ kind
+pub kind_of-is : (kind : SymbolKind) → kind_of (kind_number kind) ≡ kind
 unfolding kind_of
 kind_of-is kinds.None = refl
 kind_of-is kinds.Object = refl
 kind_of-is kinds.Func = refl
 kind_of-is kinds.Section = refl
 
-bind_of-is : (bind : Bind) → bind_of (bind_number bind) ≡ bind
+pub bind_of-is : (bind : Bind) → bind_of (bind_number bind) ≡ bind
 unfolding bind_of
 bind_of-is binds.Local = refl
 bind_of-is binds.Global = refl

@@ -14,7 +14,7 @@ use Rattle.cet_elf.proofs.WholeFile.{length-parts}
 use Rattle.cet_elf.proofs.Items.{null, part_of, items, length-items}
 use Rattle.cet_elf.proofs.RegularItems.{IsItem, items-are, symtab-few, fits_item, content-le, item-at}
 
-ended-le : (name : List ℕ) → length (ended name) ≤ length name + 1
+pub ended-le : (name : List ℕ) → length (ended name) ≤ length name + 1
 ended-le [] = omega arith
 ended-le (c ∷ name) = omega (arith, length-append (c ∷ name) (0 ∷ []))
 

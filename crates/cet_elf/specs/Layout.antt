@@ -2,6 +2,7 @@
 use Rattle.std.specs.Prelude.{◌≡◌, ℕ, List, [], ◌∷◌, ◌++◌, length, map, replicate}
 use Rattle.std.specs.List.{flat_map}
 use Rattle.byteorder.specs.Endian.{little_bytes}
+use Rattle.cet_elf.specs.declared.entries.SymbolEntry.{SymbolEntry}
 use Rattle.cet_elf.specs.declared.layout.Fields.{Fields}
 use Rattle.cet_elf.specs.declared.layout.Layout.{Layout}
 use Rattle.cet_elf.specs.Written.{Part, placed, section_header, ended, stored}
@@ -12,7 +13,7 @@ part_with name content f = record {
   name = name;
   kind = f.kind;
   flags = f.flags;
-  address = 0;
+  address = f.address;
   size = f.size;
   link = f.link;
   info = f.info;
@@ -24,9 +25,14 @@ part_with name content f = record {
 -- the section header with these fields, of a section whose bytes stand at `place` and whose name stands at `name`
 abbrev pub header_bytes : ℕ → ℕ → Fields → List ℕ
 header_bytes name place f =
-    little_bytes 4 name ++ (little_bytes 4 f.kind ++ (little_bytes 8 f.flags ++ (little_bytes 8 0 ++ (little_bytes 8 place
+    little_bytes 4 name ++ (little_bytes 4 f.kind ++ (little_bytes 8 f.flags ++ (little_bytes 8 f.address ++ (little_bytes 8 place
     ++ (little_bytes 8 f.size ++ (little_bytes 4 f.link ++ (little_bytes 4 f.info ++ (little_bytes 8 f.align
     ++ little_bytes 8 f.entry_size))))))))
+
+-- the entry of a symbol table with these fields; st_other is 0
+abbrev pub entry_bytes : SymbolEntry → List ℕ
+entry_bytes e =
+    little_bytes 4 e.name ++ (little_bytes 1 e.info ++ (little_bytes 1 0 ++ (little_bytes 2 e.section ++ (little_bytes 8 e.value ++ little_bytes 8 e.size))))
 
 -- the sections have been added: their bytes, their headers and their names stand at the end of each
 pub record Adds (old new : Layout) (parts : List Part) : Type 0 where

@@ -8,15 +8,21 @@ use crate::put::{name_place, put, put_name, put_padded, put_u16, put_u32, put_u6
 use cet_base::NoMemory;
 use std::alloc::Global;
 
-/// What a section header has beside the places of the name and of the bytes, and the address, which is 0.
+/// What a section header has beside the places of the name and of the bytes (gABI, "Sections", Elf64_Shdr).
 #[derive(Clone, Copy)]
 pub struct Fields {
+    /// sh_type.
     pub kind: u32,
     pub flags: u64,
+    /// sh_addr.
+    pub address: u64,
+    /// In bytes.
     pub size: u64,
     pub link: u32,
     pub info: u32,
+    /// sh_addralign.
     pub align: u64,
+    /// In bytes.
     pub entry_size: u64,
 }
 
@@ -31,7 +37,8 @@ pub struct Layout {
     pub names: Vec<u8>,
 }
 
-// The section header of a section whose bytes stand at `place` and whose name stands at `name`.
+/// The section header of a section whose bytes stand at `place` in the file and whose name stands at `name` in the names of
+/// sections.
 pub fn put_section_header(
     out: &mut Vec<u8>,
     name: u32,
@@ -43,7 +50,7 @@ pub fn put_section_header(
     put_u32(out, name)?;
     put_u32(out, fields.kind)?;
     put_u64(out, fields.flags)?;
-    put_u64(out, 0)?;
+    put_u64(out, fields.address)?;
     put_u64(out, place)?;
     put_u64(out, fields.size)?;
     put_u32(out, fields.link)?;

@@ -9,7 +9,7 @@ mod exec;
 pub mod fields;
 pub mod header;
 pub mod law;
-mod layout;
+pub mod layout;
 pub mod names;
 mod object;
 mod parts;
@@ -21,7 +21,7 @@ pub mod sections;
 mod size;
 mod support;
 pub mod symbols;
-mod tables;
+pub mod tables;
 #[cfg(test)]
 mod tests;
 mod writing;

@@ -28,12 +28,13 @@ fn kind_and_flags(class: Class) -> (u32, u64)
 
 // The fields of a section without entries that names no other section.
 fn plain_fields(kind: u32, flags: u64, size: u64, align: u64) -> Fields
-    ensures fields { result ≡ record { kind = kind; flags = flags; size = size; link = 0; info = 0; align = align; entry_size = 0 } }
+    ensures fields { result ≡ record { kind = kind; flags = flags; address = 0; size = size; link = 0; info = 0; align = align; entry_size = 0 } }
     ensures fits { size < 2 ^ 64 }
 {
     Fields {
         kind,
         flags,
+        address: 0,
         size,
         link: 0,
         info: 0,
@@ -96,6 +97,7 @@ fn add_rela(
     let fields = Fields {
         kind: 4,
         flags: 0,
+        address: 0,
         size: table.len() as u64,
         link: symtab,
         info: number + 1,
@@ -161,6 +163,7 @@ fn add_symbol_table(
     let fields = Fields {
         kind: 2,
         flags: 0,
+        address: 0,
         size: table.len() as u64,
         link: symtab + 1,
         info: locals_end(symbols) as u32,

@@ -1,6 +1,6 @@
 //! Bytes at the end of a file that grows to 1 GiB at most.
 
-ghost use Rattle.std.specs.Prelude.{◌≡◌, ◌≤◌, ◌++◌, IfOk, OnOk, vec_len};
+ghost use Rattle.std.specs.Prelude.{◌≡◌, ◌≤◌, ◌++◌, IfOk, OnOk, vec_len, length, drop};
 ghost use Rattle.byteorder.specs.Endian.{little_bytes};
 ghost use Rattle.cet_elf.specs.Written.{padded, ended, name_offset};
 
@@ -92,4 +92,12 @@ pub fn name_place(names: &Vec<u8>, name: &[u8]) -> Result<u32, NoMemory>
         return Err(NoMemory);
     }
     Ok(names.len() as u32)
+}
+
+/// Puts bytes in place of as many at the front.
+pub fn put_front(room: &mut [u8], front: &[u8])
+    requires { length front.now ≤ length room.old }
+    ensures { room.new ≡ front.now ++ drop (length front.now) room.old }
+{
+    room[..front.len()].copy_from_slice(front);
 }

@@ -1,25 +1,27 @@
-//! The contents of symbol tables and relocation sections.
+//! The contents of symbol tables and relocation sections (gABI, "Symbol Table", "Relocation").
 
 ghost use Rattle.std.specs.Prelude.{◌≡◌, ◌≤◌, ◌<◌, ◌^◌, ◌*◌, ◌+◌, ◌++◌, All, IfOk, OnOk, length, map, vec_len};
 ghost use Rattle.std.specs.List.{flat_map};
 ghost use Rattle.cet_elf.specs.Written.{is_local as is_local_bind, bind_number, kind_number, section_number, symbol_bytes, symbol_entries, rela_bytes, rela_table as rela_table_of, ended, locals_end as locals_end_of};
+ghost use Rattle.cet_elf.specs.Layout.{entry_bytes};
 ghost use Rattle.cet_elf.specs.Regular.{SymbolFits, RelaFits};
 
+use crate::entries::SymbolEntry;
 use crate::object::{Bind, Rela, Symbol, SymbolKind, SymbolPlace};
 use crate::put::{name_place, put_name, put_u8, put_u16, put_u32, put_u64};
 use cet_base::NoMemory;
 use std::alloc::Global;
 
-// st_info: the binding in its upper half, the type in its lower.
-fn symbol_info(symbol: &Symbol) -> u8
-    ensures { result ≡ bind_number symbol.now.bind * 16 + kind_number symbol.now.kind }
+/// st_info: the binding in its upper half, the type in its lower.
+pub fn symbol_info(bind: Bind, kind: SymbolKind) -> u8
+    ensures { result ≡ bind_number bind * 16 + kind_number kind }
 {
-    let bind = match symbol.bind {
+    let bind = match bind {
         Bind::Local => 0,
         Bind::Global => 16,
         Bind::Weak => 32,
     };
-    let kind = match symbol.kind {
+    let kind = match kind {
         SymbolKind::None => 0,
         SymbolKind::Object => 1,
         SymbolKind::Func => 2,
@@ -41,6 +43,20 @@ fn section_index(place: SymbolPlace) -> u16
     }
 }
 
+/// An entry of a symbol table, whose st_other is 0.
+pub fn put_entry(table: &mut Vec<u8>, entry: SymbolEntry) -> Result<(), NoMemory>
+    ensures table { OnOk result (table.new.items ≡ table.old.items ++ entry_bytes entry) }
+    ensures fits { (entry.value < 2 ^ 64) × (entry.size < 2 ^ 64) }
+{
+    put_u32(table, entry.name)?;
+    put_u8(table, entry.info)?;
+    put_u8(table, 0)?;
+    put_u16(table, entry.section)?;
+    put_u64(table, entry.value)?;
+    put_u64(table, entry.size)?;
+    Ok(())
+}
+
 // The entry of a symbol, and its name.
 fn put_symbol(table: &mut Vec<u8>, names: &mut Vec<u8>, symbol: &Symbol) -> Result<(), NoMemory>
     requires { section_number symbol.now.place < 2 ^ 16 }
@@ -49,16 +65,18 @@ fn put_symbol(table: &mut Vec<u8>, names: &mut Vec<u8>, symbol: &Symbol) -> Resu
     ensures fits { OnOk result (SymbolFits symbol.now) }
 {
     let name = symbol.name.as_slice();
-    put_u32(table, name_place(names, name)?)?;
-    put_u8(table, symbol_info(symbol))?;
-    put_u8(table, 0)?;
-    put_u16(table, section_index(symbol.place))?;
-    put_u64(table, symbol.value)?;
-    put_u64(table, symbol.size)?;
+    let entry = SymbolEntry {
+        name: name_place(names, name)?,
+        info: symbol_info(symbol.bind, symbol.kind),
+        section: section_index(symbol.place),
+        value: symbol.value,
+        size: symbol.size,
+    };
+    put_entry(table, entry)?;
     put_name(names, name)
 }
 
-// The entries of symbols, and their names.
+/// The entries of symbols, and their names.
 pub fn put_symbols(
     table: &mut Vec<u8>,
     names: &mut Vec<u8>,
@@ -75,13 +93,14 @@ pub fn put_symbols(
     Ok(())
 }
 
-fn is_local(bind: Bind) -> bool
+/// STB_LOCAL.
+pub fn is_local(bind: Bind) -> bool
     ensures { result ≡ is_local_bind bind }
 {
     matches!(bind, Bind::Local)
 }
 
-// One more than the index of the last local symbol.
+/// One more than the index of the last local symbol, and 0 without one.
 pub fn locals_end(symbols: &[Symbol]) -> usize
     ensures value { result ≡ locals_end_of symbols.now }
     ensures bound { result ≤ length symbols.now }
@@ -106,7 +125,7 @@ fn put_rela(table: &mut Vec<u8>, rela: &Rela) -> Result<(), NoMemory>
     Ok(())
 }
 
-// The entries of relocations.
+/// The entries of relocations.
 pub fn rela_table(alloc: Global, relocations: &[Rela]) -> Result<Vec<u8>, NoMemory>
     ensures table { IfOk result (λ table. table.items ≡ rela_table_of relocations.now) }
     ensures fit { IfOk result (λ table. All RelaFits relocations.now) }

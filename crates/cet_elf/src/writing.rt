@@ -9,7 +9,9 @@ ghost use Rattle.cet_elf.specs.ObjectFile.{IsObjectFile};
 use crate::layout::{Fields, Layout, put_section_header};
 use crate::object::{Object, Section};
 use crate::parts::{add_note, add_relas, add_sections, add_symbols};
-use crate::put::{SIZE_LIMIT, name_place, put, put_name, put_padded, put_u16, put_u32, put_u64};
+use crate::put::{
+    SIZE_LIMIT, name_place, put, put_front, put_name, put_padded, put_u16, put_u32, put_u64,
+};
 use cet_base::NoMemory;
 use std::alloc::Global;
 
@@ -22,6 +24,7 @@ fn add_names(layout: &mut Layout) -> Result<(), NoMemory>
     let fields = Fields {
         kind: 3,
         flags: 0,
+        address: 0,
         size: layout.names.len() as u64,
         link: 0,
         info: 0,
@@ -75,14 +78,6 @@ fn header(alloc: Global, place: u64, count: u16) -> Result<Vec<u8>, NoMemory>
     put_kind(&mut out)?;
     put_tables(&mut out, place, count)?;
     Ok(out)
-}
-
-// Puts bytes in place of as many at the front.
-fn put_front(room: &mut [u8], front: &[u8])
-    requires { length front.now ≤ length room.old }
-    ensures { room.new ≡ front.now ++ drop (length front.now) room.old }
-{
-    room[..front.len()].copy_from_slice(front);
 }
 
 // The file: the ELF header in the room that stands before the sections' bytes, those, and the section headers.
