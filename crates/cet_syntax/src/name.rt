@@ -41,6 +41,13 @@ impl<'a> Name<'a> {
     {
         self.bytes
     }
+
+    /// The same name once more. It takes no memory.
+    pub fn copied(&self) -> Name<'a>
+        ensures { result ≡ self.now }
+    {
+        Name { bytes: self.bytes }
+    }
 }
 
 /// The register of this name.

@@ -1,4 +1,5 @@
 //! Instructions with names in the place of numbers.
+ghost use Rattle.std.specs.Prelude.{◌≡◌};
 
 use crate::name::Name;
 use cet_isa::{Cond, Insn};
@@ -8,6 +9,18 @@ use cet_isa::{Cond, Insn};
 pub struct Reference<'a> {
     pub name: Name<'a>,
     pub addend: i64,
+}
+
+impl<'a> Reference<'a> {
+    /// The same once more. It takes no memory.
+    pub fn copied(&self) -> Reference<'a>
+        ensures { result ≡ self.now }
+    {
+        Reference {
+            name: self.name.copied(),
+            addend: self.addend,
+        }
+    }
 }
 
 /// An instruction in which a displacement in memory and a constant may be the value of a symbol. Such a field of the instruction value
