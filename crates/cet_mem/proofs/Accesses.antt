@@ -1,9 +1,9 @@
 -- What the methods of memory answer, over plain values.
-use Rattle.std.proofs.Common.{◌≡◌, ℕ, zero, suc, ◌/◌, ◌%◌, ◌^◌, ◌<◌, ◌≤◌, Bool, true, false, ◌==◌, ◌||◌, List, [], ◌∷◌, length, take, get_or, Option, Some, None, refl, sym, ap, ◌∙◌, inl, inr, arith}
+use Rattle.std.proofs.Common.{◌≡◌, ℕ, zero, suc, ◌+◌, ◌-◌, ◌/◌, ◌%◌, ◌^◌, ◌<◌, ◌≤◌, Bool, true, false, ◌==◌, ◌||◌, List, [], ◌∷◌, length, take, get_or, Option, Some, None, refl, sym, ap, ◌∙◌, inl, inr, arith, length-drop}
 use Rattle.std.specs.List.{find}
 use Rattle.std.specs.Int.{w64, byte_at, bytes_low_first, to_le_bytes}
 use Rattle.std.specs.Option.{option_map, option_and_then, unwrap_or}
-use Rattle.std.proofs.lemmas.Bool.{or_cases, eqb-true}
+use Rattle.std.proofs.lemmas.Bool.{or_cases, eqb-true, le-leb}
 use Rattle.std.proofs.Math.Nat.{pow-suc, div-div-eq-div-mul}
 use Rattle.std.proofs.lemmas.Option.{get_or_from_slice_get}
 use Rattle.cet_base.specs.Field.{little_endian}
@@ -11,7 +11,7 @@ use Rattle.cet_machine.specs.declared.memory.Region.{Region}
 use Rattle.cet_machine.specs.declared.memory.Kind.{Kind}
 use Rattle.cet_machine.specs.Memory.{holds, held, is_any, is_code, is_write, is_shadow, bytes_from, load, code_at, low_bytes, with_bytes, stored, store, shadow_load, shadow_store, fill}
 use Rattle.cet_machine.proofs.MemoryBytes.{length-low_bytes}
-use Rattle.cet_machine.proofs.MemoryRegions.{with_bytes_shape, stored_is, stored_none}
+use Rattle.cet_machine.proofs.MemoryRegions.{holds_parts, with_bytes_shape, stored_is, stored_none}
 use Rattle.cet_machine.proofs.MemoryReads.{loaded_is, loaded_at, loaded_none, bytes_is}
 use Rattle.cet_mem.specs.Access.{IsWidth}
 use Rattle.cet_mem.specs.Order.{AreInOrder}
@@ -68,6 +68,19 @@ code_done M a r at code =
 pub held_none : (M : List Region) (a n : ℕ) → find (holds a n) M ≡ None → held M a n ≡ None
 unfolding held
 held_none M a n none = ap (option_map (λ (q : Region). q.kind)) none
+
+-- an interval's first address is held with it
+pub holds_first : (a n : ℕ) (r : Region) → 0 < n → holds a n r ≡ true → holds a 1 r ≡ true
+holds_first a n r some inside =
+    let parts = holds_parts a n r inside in
+    rw (le-leb r.start a parts.0) (le-leb (a + 1) (r.start + length r.bytes) (omega (arith, parts.1, some)))
+
+-- from its first address a region has as many bytes as it holds there
+pub enough_bytes : (a n : ℕ) (r : Region) (bytes : List ℕ) → holds a n r ≡ true → bytes ≡ bytes_from r a → n ≤ length bytes
+enough_bytes a n r bytes inside is =
+    let parts = holds_parts a n r inside in
+    let size : length bytes ≡ length r.bytes - (a - r.start) = ap length is ∙ length-drop (a - r.start) r.bytes in
+    omega (arith, parts.0, parts.1, size)
 
 -- ---- stores
 

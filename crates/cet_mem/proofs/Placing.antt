@@ -1,13 +1,13 @@
 -- Free ranges and new regions, where regions are in order.
-use Rattle.std.proofs.Common.{◌≡◌, ℕ, zero, suc, ◌+◌, ◌-◌, ◌<◌, ◌≤◌, inl, inr, Bool, true, false, not, min, max, ◌&&◌, List, [], ◌∷◌, length, replicate, get_or, Some, None, sym, ap, subst, ◌∙◌, arith}
+use Rattle.std.proofs.Common.{◌≡◌, ℕ, zero, suc, ◌+◌, ◌-◌, ◌^◌, ◌<◌, ◌≤◌, inl, inr, Bool, true, false, not, nat_le, min, max, ◌&&◌, List, [], ◌∷◌, length, replicate, get_or, Some, None, sym, ap, subst, ◌∙◌, arith}
 use Rattle.std.specs.List.{insert}
-use Rattle.std.proofs.lemmas.Bool.{cases_eq, cases_lt, cond-true, cond-false, lt-ltb, le-ltb, and_left, and_right}
+use Rattle.std.proofs.lemmas.Bool.{cases_eq, cases_lt, cond-true, cond-false, lt-ltb, le-ltb, and_left, and_right, le-leb, lt-leb}
 use Rattle.std.proofs.lemmas.List.{length-replicate}
 use Rattle.std.proofs.lemmas.List.Folds.{list_any_none, list_any_at}
 use Rattle.cet_base.specs.Span.{Meets}
 use Rattle.cet_machine.specs.declared.memory.Region.{Region}
 use Rattle.cet_machine.specs.declared.memory.Kind.{Kind}
-use Rattle.cet_machine.specs.Memory.{span, MeetsNone, meets_range, is_free, is_range_of_pages, zeros, with_region, place}
+use Rattle.cet_machine.specs.Memory.{span, MeetsNone, meets_range, is_free, is_range_of_pages, zeros, with_region, place, gap, legal}
 use Rattle.cet_machine.proofs.MemoryPlace.{placed_parts, some_pages}
 use Rattle.cet_mem.specs.Order.{StartFrom, AreInOrder}
 use Rattle.cet_mem.proofs.Orders.{ends_before, some_bytes, SplitAt, count_is, split_rest, split_rest_none}
@@ -139,3 +139,23 @@ is_placed L K B N at len kind i of_l of_k order pages free within split is =
       in_order = subst AreInOrder (sym is) (placed_in_order B at len kind i order (some_pages at len pages) within_b split_b done);
       placed = done ∙ ap Some (sym is);
     }
+
+-- ---- what a system call may map
+
+pub legal_no_pages : (M : List Region) (at len : ℕ) → is_range_of_pages at len ≡ false → legal M at len ≡ false
+unfolding legal
+legal_no_pages M at len no_pages =
+    and_left (is_range_of_pages at len && nat_le (2 ^ 32) at) (is_free M (at - gap) (at + len + gap)) (and_left (is_range_of_pages at len) (nat_le (2 ^ 32) at) no_pages)
+
+pub legal_low : (M : List Region) (at len : ℕ) → at < 2 ^ 32 → legal M at len ≡ false
+unfolding legal
+legal_low M at len low =
+    and_left (is_range_of_pages at len && nat_le (2 ^ 32) at) (is_free M (at - gap) (at + len + gap))
+    (and_right (is_range_of_pages at len) (nat_le (2 ^ 32) at) (lt-leb (2 ^ 32) at low))
+
+pub legal_is : (L M : List Region) (at len : ℕ) → L ≡ M → is_range_of_pages at len ≡ true → 2 ^ 32 ≤ at → is_free L (at - gap) (at + len + gap) ≡ legal M at len
+unfolding legal
+legal_is L M at len of_l pages high =
+    ap (λ (N : List Region). is_free N (at - gap) (at + len + gap)) of_l
+    ∙ sym (ap (λ (b : Bool). b && nat_le (2 ^ 32) at && is_free M (at - gap) (at + len + gap)) pages
+    ∙ ap (λ (b : Bool). b && is_free M (at - gap) (at + len + gap)) (le-leb (2 ^ 32) at high))

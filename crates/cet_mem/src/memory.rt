@@ -1,7 +1,7 @@
 //! The memory of a process.
-ghost use Rattle.std.specs.Prelude.{◌≡◌, ℕ, ◌<◌, ◌^◌, ◌++◌, ◌↔◌, [], length, drop, replicate, OnOk, OnErr, IfOk, IfErr};
+ghost use Rattle.std.specs.Prelude.{◌≡◌, ℕ, ◌<◌, ◌≤◌, ◌^◌, ◌++◌, ◌↔◌, [], length, drop, replicate, OnOk, OnErr, IfOk, IfErr, IfSome, MatchOption};
 ghost use Rattle.std.specs.Option.{ok_or};
-ghost use Rattle.cet_machine.specs.Memory.{load, store, shadow_load, shadow_store, fetched, code_at, held, fill, place, is_range_of_pages, AreDisjoint};
+ghost use Rattle.cet_machine.specs.Memory.{load, store, shadow_load, shadow_store, fetched, code_at, held, fill, place, legal, bytes_at, stored, is_any, is_write, is_range_of_pages, AreDisjoint};
 ghost use Rattle.cet_mem.specs.Access.{IsWidth};
 
 use crate::block::Block;
@@ -19,6 +19,11 @@ const USER_END: u64 = 1 << 47;
 
 /// The bytes of a page.
 const PAGE: u64 = 4096;
+
+/// System calls map regions from here on, and each so far from all others that no store near one's end reaches the next: this project's own.
+const LEGAL_START: u64 = 1 << 32;
+
+const GAP: u64 = 65536;
 
 /// A page fault: the first address of an access that no one region of an allowed kind holds.
 #[derive(Clone, Copy, Debug, PartialEq, Eq)]
@@ -180,6 +185,37 @@ impl Memory {
         Ok(())
     }
 
+    /// The bytes from `a` to the end of the one region that holds the `n` bytes there. None exactly where no one region holds them. `n` is
+    /// not 0.
+    pub fn bytes_at(&self, a: u64, n: u64) -> Option<&[u8]>
+        requires { 0 < n }
+        ensures bytes { MatchOption result (bytes_at is_any self.now a n ≡ None) (λ bytes. bytes_at is_any self.now a n ≡ Some bytes.now) }
+        ensures enough { IfSome result (λ bytes. n ≤ length bytes.now) }
+    {
+        let i = holder(self.blocks.as_slice(), a, n)?;
+        let block = &self.blocks[i];
+        Some(block.bytes_from(a))
+    }
+
+    /// Writes `bytes`, of which there is one at least, from `a` on, in a Write region.
+    pub fn store_bytes(&mut self, a: u64, bytes: &[u8]) -> Result<(), Pf>
+        requires { 0 < length bytes.now }
+        ensures ok { OnOk result (stored is_write self.old a bytes.now ≡ Some self.new) }
+        ensures err { IfErr result (λ e. (e.addr ≡ a) × (stored is_write self.old a bytes.now ≡ None)) }
+        ensures unchanged { OnErr result (self.new ≡ self.old) }
+    {
+        let fault = Pf { addr: a };
+        let Some(i) = holder(self.blocks.as_slice(), a, bytes.len() as u64) else {
+            return Err(fault);
+        };
+        let block = &self.blocks[i];
+        if !block.is_write() {
+            return Err(fault);
+        }
+        write(&mut self.blocks, i, a, bytes);
+        Ok(())
+    }
+
     /// The kind of the one region that holds all `len` bytes from `a` on. None exactly where no one region holds them. `len`
     /// is not 0.
     pub fn held(&self, a: u64, len: u64) -> Option<Kind>
@@ -189,6 +225,17 @@ impl Memory {
         let i = holder(self.blocks.as_slice(), a, len)?;
         let block = &self.blocks[i];
         Some(block.kind())
+    }
+
+    /// Whether a system call may map the `len` bytes from `at`: whole pages, one at least, from 2^32 to 2^47, where no region has an address
+    /// in them or in the 65,536 bytes on either side.
+    pub fn legal(&self, at: u64, len: u64) -> bool
+        ensures { result ≡ legal self.now at len }
+    {
+        if !is_range_of_pages(at, len) || at < LEGAL_START {
+            return false;
+        }
+        is_free(self.blocks.as_slice(), at - GAP, at + len + GAP)
     }
 
     /// Adds a region of `len` bytes 0 from `at` on. `Illegal` exactly where `at` or `len` is no multiple of 4,096, `len` is 0,

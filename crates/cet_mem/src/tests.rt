@@ -13,6 +13,9 @@ const WRITE: u64 = 0x3000;
 
 const SHADOW: u64 = 0x7fff_ffff_f000;
 
+/// A second shadow stack, which ends where the first one begins.
+const BELOW: u64 = SHADOW - 0x1000;
+
 const STORED: u64 = 0x1122_3344_5566_7788;
 
 fn memory(alloc: Global) -> Result<Memory, MapError> {
@@ -110,6 +113,57 @@ fn accesses(rt: HostRuntime) {
     }
 }
 
+// The columns: an address, and the word there where one Shadow region holds it.
+#[test]
+fn shadow_words(rt: HostRuntime) {
+    for (a, word) in [
+        (0, None),
+        (CODE, None),
+        (CODE + 0xff8, None),
+        (READ, None),
+        (READ + 0xff8, None),
+        (WRITE, None),
+        (WRITE + 0xff8, None),
+        (BELOW - 8, None),
+        (BELOW - 1, None),
+        (BELOW, Some(0xefcd_ab89_6745_2301)),
+        (BELOW + 1, Some(0x00ef_cdab_8967_4523)),
+        (BELOW + 7, Some(0xef)),
+        (BELOW + 8, Some(0)),
+        (BELOW + 0xff7, Some(0xcdab_8967_4523_0100)),
+        (BELOW + 0xff8, Some(0xefcd_ab89_6745_2301)),
+        (BELOW + 0xff9, None),
+        (SHADOW - 4, None),
+        (SHADOW - 1, None),
+        (SHADOW, Some(0xefcd_ab89_6745_2301)),
+        (SHADOW + 4, Some(0xefcd_ab89)),
+        (SHADOW + 0xff8, Some(0xefcd_ab89_6745_2301)),
+        (SHADOW + 0xff9, None),
+        (SHADOW + 0xfff, None),
+        (SHADOW + 0x1000, None),
+        (u64::MAX - 7, None),
+        (u64::MAX - 6, None),
+        (u64::MAX, None),
+    ] {
+        let mut memory = memory(rt.alloc()).expect(&rt, "memory");
+        assert_eq!(rt; memory.place(BELOW, 4096, Kind::Shadow), Ok(()), "{a:#x}");
+        assert_eq!(rt; memory.fill(BELOW, EDGE), Ok(()), "{a:#x}");
+        assert_eq!(rt; memory.fill(BELOW + 0xff8, EDGE), Ok(()), "{a:#x}");
+        let fault = Pf { addr: a };
+        let loaded = memory.load(a, 8);
+        assert_eq!(rt; memory.shadow_load(a), word.ok_or(fault), "{a:#x}");
+        let (stored, after) = if word.is_some() {
+            (Ok(()), Ok(STORED))
+        } else {
+            (Err(fault), loaded)
+        };
+        assert_eq!(rt; memory.shadow_store(a, STORED), stored, "{a:#x}");
+        assert_eq!(rt; memory.load(a, 8), after, "{a:#x}");
+        let shadow = word.map(|_| STORED).ok_or(fault);
+        assert_eq!(rt; memory.shadow_load(a), shadow, "{a:#x}");
+    }
+}
+
 // The columns: an address, how many bytes are fetched from there, and the first and the last of them.
 #[test]
 fn fetches(rt: HostRuntime) {
@@ -157,12 +211,19 @@ fn places(rt: HostRuntime) {
         (SHADOW - 0x1000, 0x3000, illegal),
         (0x10_0000, u64::MAX - 0xfff, illegal),
         (u64::MAX - 0xfff, 0x1000, illegal),
+        (0, REGION_LIMIT + 0x1000, illegal),
+        (0x1_0000_0000, 1 << 47, illegal),
         (0x1_0000_0000, REGION_LIMIT + 0x1000, want),
         (0x1_0000_0000, 1 << 46, want),
         (0, 0x1000, Ok(())),
         (WRITE + 0x1000, 0x1000, Ok(())),
         (SHADOW - 0x1000, 0x1000, Ok(())),
         (0, 0x1000, illegal),
+        (0x20_0000, 0x3000, Ok(())),
+        (0x20_1000, 0x1000, illegal),
+        (0x20_2000, 0x2000, illegal),
+        (0x1f_f000, 0x5000, illegal),
+        (0x20_3000, 0x1000, Ok(())),
     ] {
         assert_eq!(rt; memory.place(at, len, Kind::Write), answer, "{at:#x}");
     }
@@ -174,4 +235,59 @@ fn places(rt: HostRuntime) {
         Err(Pf { addr: CODE + 0xff9 })
     );
     memory.regions_are_disjoint();
+}
+
+// The columns: a first address, a length, and whether one region holds so many bytes there.
+#[test]
+fn pieces(rt: HostRuntime) {
+    let mut memory = memory(rt.alloc()).expect(&rt, "memory");
+    for (a, n, found) in [
+        (CODE, 0x1000, true),
+        (CODE, 0x1001, false),
+        (READ + 0xfff, 1, true),
+        (CODE - 1, 2, false),
+        (SHADOW + 0xff8, 9, false),
+        (u64::MAX, 1, false),
+    ] {
+        assert_eq!(rt; memory.bytes_at(a, n).is_some(), found, "{a:#x}");
+    }
+    let last = memory
+        .bytes_at(WRITE + 0xff8, 8)
+        .map(|bytes| bytes == EDGE.as_slice());
+    assert_eq!(rt; last, Some(true));
+    for (a, stored) in [
+        (WRITE + 0xffd, Ok(())),
+        (
+            WRITE + 0xffe,
+            Err(Pf {
+                addr: WRITE + 0xffe,
+            }),
+        ),
+        (READ, Err(Pf { addr: READ })),
+        (SHADOW, Err(Pf { addr: SHADOW })),
+    ] {
+        assert_eq!(rt; memory.store_bytes(a, b"\x0a\x0b\x0c"), stored, "{a:#x}");
+    }
+    assert_eq!(rt; memory.load(WRITE + 0xff8, 8), Ok(0x0c0b_0a89_6745_2301));
+}
+
+// The columns: a first address, a length, and whether a system call may map them.
+#[test]
+fn mappings(rt: HostRuntime) {
+    let memory = memory(rt.alloc()).expect(&rt, "memory");
+    for (at, len, legal) in [
+        (0x1_0000_0000, 0x1000, true),
+        (0xffff_f000, 0x1000, false),
+        (0x1_0000_0001, 0x1000, false),
+        (0x1_0000_0000, 0x1001, false),
+        (0x1_0000_0000, 0, false),
+        (SHADOW - 0x11000, 0x1000, true),
+        (SHADOW - 0x10000, 0x1000, false),
+        (SHADOW - 0x11000, 0x2000, false),
+        (0x7fff_ffff_f000 + 0x1000, 0x1000, false),
+        (u64::MAX - 0xfff, 0x1000, false),
+        (0x1_0000_0000, u64::MAX - 0xfff, false),
+    ] {
+        assert_eq!(rt; memory.legal(at, len), legal, "{at:#x}");
+    }
 }
