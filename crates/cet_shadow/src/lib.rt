@@ -4,6 +4,8 @@
 #![tactic(auto)]
 
 mod stack;
+#[cfg(test)]
+mod tests;
 mod token;
 mod word;
 
