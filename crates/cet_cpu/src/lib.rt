@@ -15,3 +15,6 @@ mod system;
 mod tests;
 
 pub use one_step::{StepEnd, step};
+pub use operand::{value, with_value};
+pub use shadow::shadow_pushed;
+pub use system::flags_word;

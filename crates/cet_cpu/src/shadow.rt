@@ -20,7 +20,8 @@ pub fn fault_of(fault: ShadowFault) -> Fault
     }
 }
 
-/// Lowers SSP by 8 and writes the word there.
+/// Lowers SSP, a multiple of 8, by 8 and writes the word there (SDM volume 1, "Shadow Stacks"). A page fault where no Shadow region holds it,
+/// which leaves memory as it was.
 pub fn shadow_pushed(mem: &mut Memory, regs: Regs, word: u64) -> Result<Regs, Fault>
     requires { regs.ssp % 8 ≡ 0 }
     ensures does { after mem.new result ≡ shadow_pushed word (machine mem.old regs) }

@@ -9,7 +9,7 @@ use crate::operand::put;
 use cet_isa::{Flags, Reg, Regs, Width};
 
 /// The four flags in EFLAGS, whose bit 1 is always 1 (SDM volume 1, figure 3-8).
-fn flags_word(flags: Flags) -> u64
+pub fn flags_word(flags: Flags) -> u64
     ensures { result ≡ flags_word flags }
 {
     u64::from(flags.cf)

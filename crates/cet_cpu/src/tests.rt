@@ -1,13 +1,18 @@
 //! Steps over raw code. The code is what GNU as makes of the text above a row; the states follow from the SDM's page of the instruction.
 //! Flags that an instruction leaves undefined come out clear.
 mod data;
+mod faults;
 mod transfers;
+mod widths;
 
 use crate::operand::with_value;
 use crate::{StepEnd, step};
-use cet_isa::{Flags, Mode, Reg, Regs};
+use cet_isa::{Fault, Flags, Mode, Reg, Regs};
 use cet_mem::{Kind, MapError, Memory};
 use std::alloc::Global;
+
+/// A page of code of its own, which ends where the next one begins.
+const CODE_BEFORE: u64 = 0x400000;
 
 const CODE: u64 = 0x401000;
 
@@ -27,6 +32,11 @@ const IBT: Mode = Mode {
 
 const SHSTK: Mode = Mode {
     ibt: false,
+    shstk: true,
+};
+
+const BOTH: Mode = Mode {
+    ibt: true,
     shstk: true,
 };
 
@@ -51,6 +61,24 @@ type Row = (
     StepEnd,
     &'static [Part],
 );
+
+/// The code of one instruction, what is different before it, and what after it besides rip.
+type Single = (&'static [u8], &'static [Part], &'static [Part]);
+
+/// The code of one instruction, what is different before it, and the fault that it ends in.
+type Faulting = (&'static [u8], &'static [Part], Fault);
+
+/// The state before the instructions of `Single` and `Faulting`: a register for each width's sign, the address of a word, and one where words
+/// are loaded and not stored, and one where they are neither.
+const OPERANDS: &[Part] = &[
+    Part::Reg(Reg::Rax, 0x1122334455667788),
+    Part::Reg(Reg::Rcx, 0x8000000180000080),
+    Part::Reg(Reg::Rdi, 0x403900),
+    Part::Reg(Reg::Rsi, 0x405900),
+    Part::Reg(Reg::Rbx, 0x404000),
+    Part::Word(0x403900, 0xfedcba9876543210),
+    Part::Word(0x403800, 0x401234),
+];
 
 fn flags(n: u8) -> Flags {
     Flags {
@@ -98,6 +126,7 @@ fn usual() -> Regs {
 
 fn pages(alloc: Global) -> Result<Memory, MapError> {
     let mut memory = Memory::new(alloc);
+    memory.place(CODE_BEFORE, 4096, Kind::Code)?;
     memory.place(CODE, 4096, Kind::Code)?;
     memory.place(DATA, 4096, Kind::Write)?;
     memory.place(SHADOW, 4096, Kind::Shadow)?;
@@ -162,6 +191,55 @@ fn steps(rt: HostRuntime) {
             assert_eq!(rt; ended, Some(*end), "the end of {code:?}");
             assert_eq!(rt; regs, with_parts(start, after), "after {code:?}");
             assert_eq!(rt; other_word(&memory, after), None, "after {code:?}");
+        }
+    }
+}
+
+#[test]
+fn single_steps(rt: HostRuntime) {
+    for rows in [
+        widths::moves(),
+        widths::arithmetic(),
+        widths::shifts(),
+        widths::stack(),
+        widths::control(),
+    ] {
+        for (code, before, after) in rows {
+            let start = with_parts(with_parts(usual(), OPERANDS), before);
+            let next = Regs {
+                rip: start.rip.wrapping_add(code.len() as u64),
+                ..start
+            };
+            let mut memory = pages(rt.alloc()).expect(&rt, "memory");
+            fill(&mut memory, start.rip, code, OPERANDS);
+            fill(&mut memory, start.rip, code, before);
+            let mut regs = start;
+            let ended = run(&mut memory, &mut regs, OFF, 1);
+            assert_eq!(rt; ended, Some(StepEnd::Next), "the end of {code:?}");
+            assert_eq!(rt; regs, with_parts(next, after), "after {code:?}");
+            assert_eq!(rt; other_word(&memory, after), None, "after {code:?}");
+        }
+    }
+}
+
+#[test]
+fn faulting_steps(rt: HostRuntime) {
+    for rows in [
+        faults::moves(),
+        faults::arithmetic(),
+        faults::shifts(),
+        faults::stack(),
+        faults::control(),
+    ] {
+        for (code, before, fault) in rows {
+            let start = with_parts(with_parts(usual(), OPERANDS), before);
+            let mut memory = pages(rt.alloc()).expect(&rt, "memory");
+            fill(&mut memory, start.rip, code, OPERANDS);
+            fill(&mut memory, start.rip, code, before);
+            let mut regs = start;
+            let ended = run(&mut memory, &mut regs, OFF, 1);
+            assert_eq!(rt; ended, Some(StepEnd::Fault(*fault)), "the end of {code:?}");
+            assert_eq!(rt; regs, start, "after {code:?}");
         }
     }
 }

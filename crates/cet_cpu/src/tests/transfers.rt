@@ -1,7 +1,7 @@
 //! Branches, CALL and RET, the tracker and the shadow stack.
 use crate::StepEnd::{Fault, Next, Syscall};
 use crate::tests::Part::{Flags, Reg, Rip, Ssp, Waiting, Word};
-use crate::tests::{IBT, OFF, Row, SHSTK};
+use crate::tests::{BOTH, IBT, OFF, Row, SHSTK};
 use cet_isa::Fault::{EndBranch, General, NearRet, Page, Rstor, Undefined};
 use cet_isa::Reg::{R11, Rax, Rcx, Rdi, Rsp};
 
@@ -76,6 +76,14 @@ pub fn control() -> &'static [Row] {
                 Word(0x4037f8, 0x401003),
             ],
         ),
+        (
+            b"\xe8\x00\x00\x00\x00",
+            SHSTK,
+            1,
+            &[Ssp(0x405000)],
+            Next,
+            &[Rip(0x401005), Reg(Rsp, 0x4037f8), Word(0x4037f8, 0x401005)],
+        ),
         // call rax
         (
             b"\xff\xd0",
@@ -89,6 +97,55 @@ pub fn control() -> &'static [Row] {
                 Word(0x4037f8, 0x401002),
                 Ssp(0x4057f8),
                 Word(0x4057f8, 0x401002),
+            ],
+        ),
+        // call rax
+        (
+            b"\xff\xd0",
+            BOTH,
+            1,
+            &[Reg(Rax, 0x401234)],
+            Next,
+            &[
+                Rip(0x401234),
+                Waiting(true),
+                Reg(Rsp, 0x4037f8),
+                Word(0x4037f8, 0x401002),
+                Ssp(0x4057f8),
+                Word(0x4057f8, 0x401002),
+            ],
+        ),
+        // call rax
+        (
+            b"\xff\xd0",
+            BOTH,
+            1,
+            &[Ssp(0x405000)],
+            Fault(Page { addr: 0x404ff8 }),
+            &[Word(0x4037f8, 0x0)],
+        ),
+        // call [rdi]
+        (
+            b"\xff\x17",
+            BOTH,
+            1,
+            &[Reg(Rdi, 0x403900), Reg(Rsp, 0x403000), Ssp(0x405000)],
+            Fault(Page { addr: 0x402ff8 }),
+            &[],
+        ),
+        // notrack call [rdi]
+        (
+            b"\x3e\xff\x17",
+            BOTH,
+            1,
+            &[Reg(Rdi, 0x403900), Word(0x403900, 0x401234)],
+            Next,
+            &[
+                Rip(0x401234),
+                Reg(Rsp, 0x4037f8),
+                Word(0x4037f8, 0x401003),
+                Ssp(0x4057f8),
+                Word(0x4057f8, 0x401003),
             ],
         ),
         // notrack call rax
@@ -129,6 +186,17 @@ pub fn control() -> &'static [Row] {
             Next,
             &[Rip(0x401234)],
         ),
+        // jmp [rdi]
+        (
+            b"\xff\x27",
+            IBT,
+            1,
+            &[Reg(Rdi, 0x403900), Word(0x403900, 0x401234)],
+            Next,
+            &[Rip(0x401234), Waiting(true)],
+        ),
+        // jmp [rdi]
+        (b"\xff\x27", IBT, 1, &[], Fault(Page { addr: 0x0 }), &[]),
         // jmp [rdi]
         (
             b"\xff\x27",
@@ -186,6 +254,15 @@ pub fn control() -> &'static [Row] {
             Fault(Page { addr: 0x404000 }),
             &[],
         ),
+        // ret
+        (
+            b"\xc3",
+            SHSTK,
+            1,
+            &[Ssp(0x403900)],
+            Fault(Page { addr: 0x403900 }),
+            &[],
+        ),
         // syscall
         (
             b"\x0f\x05",
@@ -217,6 +294,25 @@ pub fn control() -> &'static [Row] {
             Fault(Page { addr: 0x402000 }),
             &[],
         ),
+        // nop
+        (
+            b"\x90",
+            OFF,
+            1,
+            &[Rip(0x403900)],
+            Fault(Page { addr: 0x403900 }),
+            &[],
+        ),
+        // nop
+        (b"\x90", OFF, 1, &[Rip(0x400fff)], Next, &[Rip(0x401000)]),
+        (
+            b"\xe8\x00\x00",
+            OFF,
+            1,
+            &[Rip(0x400ffd)],
+            Fault(Page { addr: 0x401000 }),
+            &[],
+        ),
     ]
 }
 
@@ -236,6 +332,26 @@ pub fn tracker() -> &'static [Row] {
         (b"\xf3\x0f\x1e\xfa", IBT, 1, &[], Next, &[Rip(0x401004)]),
         // nop
         (b"\x90", IBT, 1, &[Waiting(true)], Fault(EndBranch), &[]),
+        // nop
+        (b"\x90", OFF, 1, &[Waiting(true)], Fault(EndBranch), &[]),
+        // endbr64
+        (
+            b"\xf3\x0f\x1e\xfa",
+            OFF,
+            1,
+            &[Waiting(true)],
+            Next,
+            &[Rip(0x401004), Waiting(false)],
+        ),
+        // endbr32
+        (
+            b"\xf3\x0f\x1e\xfb",
+            IBT,
+            1,
+            &[Waiting(true)],
+            Fault(EndBranch),
+            &[],
+        ),
         // jmp rax
         (b"\xff\xe0", IBT, 1, &[Waiting(true)], Fault(EndBranch), &[]),
         // ud2
@@ -263,6 +379,14 @@ pub fn tracker() -> &'static [Row] {
             1,
             &[Rip(0x401ffd)],
             Fault(Page { addr: 0x402000 }),
+            &[],
+        ),
+        (
+            b"\xf3\x0f\x1e",
+            IBT,
+            1,
+            &[Rip(0x400ffd), Waiting(true), Word(0x401000, 0xfa)],
+            Fault(EndBranch),
             &[],
         ),
         (
@@ -515,7 +639,7 @@ pub fn shadow() -> &'static [Row] {
     ]
 }
 
-/// A CALL, then what goes wrong with the address that it pushed.
+/// A CALL, then what goes wrong with the address that it pushed; an indirect JMP and its target; and a turn from one shadow stack to another.
 pub fn programs() -> &'static [Row] {
     &[
         (
@@ -566,6 +690,53 @@ pub fn programs() -> &'static [Row] {
                 Word(0x4037f8, 0x401005),
                 Ssp(0x4057f8),
                 Word(0x4057f8, 0x401005),
+            ],
+        ),
+        // jmp rax, to endbr64 and nop
+        (
+            b"\xff\xe0\x90\x90\xf3\x0f\x1e\xfa\x90",
+            IBT,
+            3,
+            &[Reg(Rax, 0x401004)],
+            Next,
+            &[Rip(0x401009)],
+        ),
+        // notrack jmp rax, to nop
+        (
+            b"\x3e\xff\xe0\x90",
+            IBT,
+            2,
+            &[Reg(Rax, 0x401003)],
+            Next,
+            &[Rip(0x401004)],
+        ),
+        // rstorssp [rdi], saveprevssp
+        (
+            b"\xf3\x0f\x01\x2f\xf3\x0f\x01\xea",
+            SHSTK,
+            2,
+            &[Reg(Rdi, 0x405100), Word(0x405100, 0x405109)],
+            Next,
+            &[
+                Rip(0x401008),
+                Ssp(0x405108),
+                Word(0x405100, 0x405803),
+                Word(0x4057f8, 0x405801),
+            ],
+        ),
+        // rstorssp [rdi], saveprevssp
+        (
+            b"\xf3\x0f\x01\x2f\xf3\x0f\x01\xea",
+            SHSTK,
+            2,
+            &[Reg(Rdi, 0x405100), Word(0x405100, 0x40510d)],
+            Fault(General),
+            &[
+                Rip(0x401004),
+                Flags(1),
+                Ssp(0x405100),
+                Word(0x405100, 0x405803),
+                Word(0x4057f8, 0x0),
             ],
         ),
     ]
