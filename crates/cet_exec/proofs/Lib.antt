@@ -1,2 +1,13 @@
+pub mod Counts
+pub mod Layouts
+pub mod Locals
 pub mod ProgramLemmas
+pub mod ProgramsRead
+pub mod ReadBack
+pub mod SectionsRead
+pub mod Spaced
+pub mod Standing
 pub mod SymbolTables
+pub mod SymbolsRead
+pub mod WholeFile
+pub mod WrittenFile

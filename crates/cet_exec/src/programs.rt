@@ -71,7 +71,7 @@ fn program(bytes: &[u8], index: u32) -> ProgramHeader
 }
 
 // PT_LOAD.
-fn is_load(p: ProgramHeader) -> bool
+pub fn is_load(p: ProgramHeader) -> bool
     ensures { result ≡ is_load_in p }
 {
     p.kind == 1
