@@ -1,0 +1,11 @@
+use Rattle.std.proofs.Common.{◌≡◌, ℕ, ◌+◌, ◌-◌, ◌*◌, ◌<◌, ◌≤◌, true, false, List, [], ◌∷◌, ◌++◌, take, drop, get_or, Some, None, Ok, Err, length, refl, sym, ap, subst, ◌∙◌, arith}
+use Rattle.cet_kernel.proofs.Delivery.{pushed_aligned, aligned_result}
+use Rattle.cet_kernel.proofs.signals.shadow_frame.Goals as goal
+
+pub shadow_pushed-requires-2 : goal.shadow_pushed-requires-2
+shadow_pushed-requires-2 c = pushed_aligned c.args.mem.now c.shadow_pushed.new.mem c.args.regs c.in_ok-with_ssp.with_ssp _ c.in_ok-with_ssp.ensures.does c.requires
+
+pub returns-clause-aligned : goal.returns-clause-aligned
+returns-clause-aligned c =
+    aligned_result c.shadow_pushed.new.mem c.shadow_pushed-2.new.mem c.in_ok-with_ssp.with_ssp c.args.action.now.restorer c.shadow_pushed-2.result c.shadow_pushed-2.ensures.does
+    (pushed_aligned c.args.mem.now c.shadow_pushed.new.mem c.args.regs c.in_ok-with_ssp.with_ssp _ c.in_ok-with_ssp.ensures.does c.requires)

@@ -1,0 +1,4 @@
+pub mod Errors
+pub mod Inside
+pub mod Parts
+pub mod Room
