@@ -1,0 +1,4 @@
+pub mod Bits
+pub mod Choices
+pub mod Gained
+pub mod Limits

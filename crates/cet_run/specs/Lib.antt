@@ -1,0 +1,5 @@
+pub mod Laws
+pub mod Lowest
+pub mod Report
+pub mod Text
+pub mod Turn
