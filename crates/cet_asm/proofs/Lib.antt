@@ -1,1 +1,24 @@
 mod Rows
+pub mod Once
+pub mod Marks
+pub mod CountLemmas
+pub mod Known
+pub mod Written
+pub mod UseLemmas
+pub mod Counted
+pub mod StepLemmas
+pub mod Next
+pub mod Cursors
+pub mod Lists
+pub mod Behind
+pub mod SymbolNames
+pub mod SymbolList
+pub mod SectionList
+pub mod Growing
+pub mod Marked
+pub mod SiteParts
+pub mod Made
+pub mod Fields
+pub mod Steps
+pub mod FromPlaced
+pub mod ItemLemmas

@@ -1,5 +1,5 @@
 -- Small texts, assembled by the definition; the bytes are those that GNU as gives for the same instructions in its own spelling.
-use Rattle.std.proofs.Common.{◌≡◌, ℕ, List, [], ◌∷◌, refl, Option, Some, None, codes, Result, Ok, Err, pos, negsuc, map}
+use Rattle.std.proofs.Common.{◌≡◌, ℕ, List, [], ◌∷◌, refl, Option, Some, None, codes, Result, Ok, Err, pos, map}
 use Rattle.cet_isa.specs.Canonical.{canonical}
 use Rattle.cet_syntax.specs.Word.{word_of, unsized_word, sized_word}
 use Rattle.cet_syntax.specs.Lines.{items_of, parts}

@@ -1,6 +1,6 @@
 -- The object of an assembly text, or the first thing wrong with the text.
-use Rattle.std.specs.Prelude.{◌≡◌, ℕ, ◌+◌, ◌-◌, ◌^◌, Bool, true, false, not, ◌&&◌, ◌||◌, ◌==◌, nat_lt, nat_le, if◌then◌else◌, List, [], ◌∷◌, ◌++◌, length, map, filter, ℤ, pos, Option, Some, None, unwrap_or, option_and_then, is_some, is_none, Result, Ok, Err, codes}
-use Rattle.std.specs.Option.{option_map, option_map_or, option_or, option_to_list, ok_or}
+use Rattle.std.specs.Prelude.{◌≡◌, ℕ, ◌+◌, ◌-◌, ◌^◌, Bool, true, false, not, ◌&&◌, ◌||◌, ◌==◌, nat_lt, nat_le, if◌then◌else◌, List, [], ◌∷◌, ◌++◌, length, map, filter, Option, Some, None, unwrap_or, is_some, is_none, Result, Ok, Err, codes}
+use Rattle.std.specs.Option.{option_map, option_map_or, option_or, ok_or}
 use Rattle.std.specs.List.{flat_map, list_any, list_all, find, position_from, sum_by}
 use Rattle.std.specs.Int.{w8, w64}
 use Rattle.std.specs.Str.{bytes_eq}
@@ -8,11 +8,9 @@ use Rattle.cet_isa.specs.Canonical.{fits}
 use Rattle.cet_note.specs.Form.{written}
 use Rattle.cet_elf.specs.declared.object.Class.{Class}
 use Rattle.cet_elf.specs.declared.object.Class.TheVariants as class
-use Rattle.cet_elf.specs.declared.object.SymbolKind.{SymbolKind}
 use Rattle.cet_elf.specs.declared.object.SymbolKind.TheVariants as kind
 use Rattle.cet_elf.specs.declared.object.Bind.{Bind}
 use Rattle.cet_elf.specs.declared.object.Bind.TheVariants as bind
-use Rattle.cet_elf.specs.declared.object.SymbolPlace.{SymbolPlace}
 use Rattle.cet_elf.specs.declared.object.SymbolPlace.TheVariants as place
 use Rattle.cet_elf.specs.declared.object.Rela.{Rela}
 use Rattle.cet_elf.specs.declared.object.Section.{Section}
@@ -35,14 +33,20 @@ use Rattle.cet_syntax.specs.declared.keyword.Keyword.TheVariants as keyword
 use Rattle.cet_syntax.specs.Keyword.{headed_by}
 use Rattle.cet_syntax.specs.Statement.{statement_of}
 use Rattle.cet_syntax.specs.declared.lines.Item.{Item}
-use Rattle.cet_syntax.specs.declared.lines.Item.TheVariants.{Label, Body}
+use Rattle.cet_syntax.specs.declared.lines.Item.TheVariants as read
 use Rattle.cet_syntax.specs.declared.lines.Numbered.{Numbered}
 use Rattle.cet_syntax.specs.Lines.{items_in}
 use Rattle.cet_asm.specs.declared.error.AsmKind.{AsmKind}
 use Rattle.cet_asm.specs.declared.error.AsmKind.TheVariants as fault
 use Rattle.cet_asm.specs.declared.error.AsmError.{AsmError}
 use Rattle.cet_asm.specs.declared.usage.Use.{Use}
-use Rattle.cet_asm.specs.Emitted.{Emitted, Around, Spot, Targets, emitted, moved, padding, short_distance, size_of}
+use Rattle.cet_asm.specs.declared.placed.Placed.{Placed}
+use Rattle.cet_asm.specs.declared.placed.Step.{Step}
+use Rattle.cet_asm.specs.declared.placed.Step.TheVariants.{Label, States}
+use Rattle.cet_asm.specs.declared.placed.Spot.{Spot}
+use Rattle.cet_asm.specs.declared.placed.Around.{Around}
+use Rattle.cet_asm.specs.declared.definition.Definition.{Definition}
+use Rattle.cet_asm.specs.Emitted.{Targets, emitted, moved, padding, short_distance, size_of}
 
 infixl 10 ◌>>=◌
 abbrev pub ◌>>=◌ : {A B E : Type 0} → Result A E → (A → Result B E) → Result B E
@@ -53,16 +57,6 @@ abbrev pub demand : Bool → AsmKind → Result (Unit {0}) AsmKind
 demand rule broken = if rule then Ok tt else Err broken
 
 -- ---- where statements stand
-
--- an item that was read
-pub data Step : Type 0 where
-  labels : List ℕ → Step
-  states : Statement → Step
-
-pub record Placed : Type 0 where
-  pub line : ℕ
-  pub step : Step
-  pub spot : Spot
 
 -- the section and function that the next statement stands in, and how many bytes each section has
 pub record State : Type 0 where
@@ -93,8 +87,8 @@ after_statement s (statement.Directive directive.End) = record { section = s.sec
 after_statement s other = grown s (size_of (s.sizes s.section) other)
 
 abbrev pub after : State → Step → State
-after s (labels name) = s
-after s (states st) = after_statement s st
+after s (Label name) = s
+after s (States st) = after_statement s st
 
 -- ---- names
 
@@ -106,17 +100,9 @@ abbrev pub each_once : List (List ℕ) → List (List ℕ) → List (List ℕ)
 each_once seen [] = []
 each_once seen (name ∷ names) = if is_among name seen then each_once seen names else name ∷ each_once (name ∷ seen) names
 
--- a symbol that a statement defines
-pub record Definition : Type 0 where
-  pub name : List ℕ
-  pub kind : SymbolKind
-  pub section : SectionName
-  pub value : ℕ
-  pub size : ℕ
-
 -- whether a statement ends the function before it
 abbrev pub ends_function : Step → Bool
-ends_function (states (statement.Directive directive.End)) = true
+ends_function (States (statement.Directive directive.End)) = true
 ends_function _ = false
 
 -- the first `.end` among later statements
@@ -134,9 +120,9 @@ defined_by p later = by_step p.step where
   by_directive _ = []
 
   by_step : Step → List Definition
-  by_step (labels name) = record { name = name; kind = kind.None; section = p.spot.section; value = p.spot.offset; size = 0 } ∷ []
-  by_step (states (statement.Directive d)) = by_directive d
-  by_step (states _) = []
+  by_step (Label name) = record { name = name; kind = kind.None; section = p.spot.section; value = p.spot.offset; size = 0 } ∷ []
+  by_step (States (statement.Directive d)) = by_directive d
+  by_step (States _) = []
 
 -- in their order
 abbrev pub definitions : List Placed → List Definition
@@ -154,26 +140,26 @@ no_targets section name = None
 abbrev pub uses_of : Targets → Placed → List Use
 uses_of targets p = by_step p.step where
   by_step : Step → List Use
-  by_step (labels name) = []
-  by_step (states st) = (emitted targets p.spot st).uses
+  by_step (Label name) = []
+  by_step (States st) = (emitted targets p.spot st).uses
 
 -- the names that a statement uses, in the order in which it writes them: `.global` uses none
 abbrev pub used_names : Placed → List (List ℕ)
 used_names p = by_step p.step where
   by_step : Step → List (List ℕ)
-  by_step (states (statement.Code (code.Short c name))) = name ∷ []
+  by_step (States (statement.Code (code.Short c name))) = name ∷ []
   by_step _ = map (λ u. u.name) (uses_of no_targets p)
 
 abbrev pub global_names : List Placed → List (List ℕ)
 global_names placed = flat_map (λ p. by_step p.step) placed where
   by_step : Step → List (List ℕ)
-  by_step (states (statement.Directive (directive.Global name))) = name ∷ []
+  by_step (States (statement.Directive (directive.Global name))) = name ∷ []
   by_step _ = []
 
 abbrev pub note_words : List Placed → List NoteWords
 note_words placed = flat_map (λ p. by_step p.step) placed where
   by_step : Step → List NoteWords
-  by_step (states (statement.Directive (directive.Note words))) = words ∷ []
+  by_step (States (statement.Directive (directive.Note words))) = words ∷ []
   by_step _ = []
 
 -- the names that are defined or used
@@ -217,8 +203,8 @@ by_kind (Err e) = Err (kind_of e)
 abbrev pub is_label : SectionName → List ℕ → Placed → Bool
 is_label section name p = same_section p.spot.section section && by_step p.step where
   by_step : Step → Bool
-  by_step (labels other) = bytes_eq other name
-  by_step (states st) = false
+  by_step (Label other) = bytes_eq other name
+  by_step (States st) = false
 
 -- the table of `.off` is a label before it, in the same section
 abbrev pub table_is_known : List Placed → State → Statement → Bool
@@ -239,15 +225,15 @@ defines_anew before p =
     list_all (λ d. not (is_among d.name (map (λ e. e.name) (definitions before)))) (defined_by p []) && nat_le (length (note_words (before ++ p ∷ []))) 1
 
 abbrev pub step_of : List Placed → State → Item → Result Step AsmKind
-step_of before s (Label name) = Ok (labels name)
-step_of before s (Body cs) = do
+step_of before s (read.Label name) = Ok (Label name)
+step_of before s (read.Body cs) = do
   headed ← ok_or (headed_by cs) fault.Word
   _ ← demand (stands s headed.keyword) fault.Word
   st ← by_kind (statement_of headed.keyword headed.rest)
   _ ← demand (table_is_known before s st) fault.Operand
   _ ← demand (nat_lt (s.sizes s.section + size_of (s.sizes s.section) st) (2 ^ 64)) fault.Range
   _ ← demand (addends_fit (emitted (targets_in (definitions before)) (spot_in s) st).uses) fault.Range
-  Ok (states st)
+  Ok (States st)
 
 -- the statement in its place, or the first thing wrong with it
 abbrev pub placed_of : List Placed → State → Numbered → Result Placed AsmKind
@@ -278,8 +264,8 @@ short_fault targets spot name = by_target (targets spot.section name) where
 abbrev pub late_fault : Targets → Placed → List Placed → Option AsmKind
 late_fault targets p later = by_step p.step where
   by_step : Step → Option AsmKind
-  by_step (states (statement.Code (code.Short c name))) = short_fault targets p.spot name
-  by_step (states (statement.Directive (directive.Func name))) = if is_some (end_among later) then None else Some fault.Word
+  by_step (States (statement.Code (code.Short c name))) = short_fault targets p.spot name
+  by_step (States (statement.Directive (directive.Func name))) = if is_some (end_among later) then None else Some fault.Word
   by_step _ = None
 
 abbrev pub first_late : Targets → List Placed → Option AsmError
@@ -308,8 +294,8 @@ in_section section placed = filter (λ p. same_section p.spot.section section) p
 abbrev pub step_size : Placed → ℕ
 step_size p = by_step p.step where
   by_step : Step → ℕ
-  by_step (labels name) = 0
-  by_step (states st) = size_of p.spot.offset st
+  by_step (Label name) = 0
+  by_step (States st) = size_of p.spot.offset st
 
 abbrev pub section_size : SectionName → List Placed → ℕ
 section_size section placed = sum_by step_size (in_section section placed)
@@ -358,8 +344,8 @@ section_class Bss = class.Zero
 abbrev pub step_bytes : Targets → Placed → List ℕ
 step_bytes targets p = by_step p.step where
   by_step : Step → List ℕ
-  by_step (labels name) = []
-  by_step (states st) = (emitted targets p.spot st).bytes
+  by_step (Label name) = []
+  by_step (States st) = (emitted targets p.spot st).bytes
 
 -- bss stores none
 abbrev pub section_bytes : List Placed → SectionName → List ℕ

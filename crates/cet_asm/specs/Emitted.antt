@@ -1,9 +1,9 @@
 -- What a statement puts into its section: bytes, and the fields among them that wait for the value of a symbol (gABI, "Relocation"; psABI,
 -- "Relocation Types"). Both depend on the statement, on where it stands, and on where names are defined, and on nothing else.
-use Rattle.std.specs.Prelude.{ℕ, ◌+◌, ◌-◌, ◌*◌, ◌%◌, ◌^◌, Bool, true, false, ◌==◌, if◌then◌else◌, List, [], ◌∷◌, ◌++◌, length, take, drop, map, replicate, ℤ, pos, ◌+ℤ◌, ◌-ℤ◌, Option, Some, None, unwrap_or, option_and_then}
+use Rattle.std.specs.Prelude.{ℕ, ◌+◌, ◌-◌, ◌%◌, Bool, true, false, ◌==◌, if◌then◌else◌, List, [], ◌∷◌, ◌++◌, length, take, drop, map, replicate, ℤ, pos, ◌-ℤ◌, Option, Some, None, unwrap_or}
 use Rattle.std.specs.Option.{option_map, option_to_list}
-use Rattle.std.specs.List.{flat_map, sum_by}
-use Rattle.std.specs.Int.{w8, w32, w64, to_le_bytes, cast_unsigned}
+use Rattle.std.specs.List.{sum_by}
+use Rattle.std.specs.Int.{w8, w64, to_le_bytes}
 use Rattle.cet_isa.specs.declared.register.Reg.TheVariants.{Rcx}
 use Rattle.cet_isa.specs.declared.operand.Width.{Width}
 use Rattle.cet_isa.specs.declared.operand.Width.TheVariants.{B1, B4, B8}
@@ -14,7 +14,6 @@ use Rattle.cet_isa.specs.declared.operand.Rel.{Rel}
 use Rattle.cet_isa.specs.declared.operand.Rel.TheVariants.{S, L}
 use Rattle.cet_isa.specs.declared.operation.ShiftCount.{ShiftCount}
 use Rattle.cet_isa.specs.declared.operation.ShiftCount.TheVariants as count
-use Rattle.cet_isa.specs.declared.operation.Cond.{Cond}
 use Rattle.cet_isa.specs.declared.instruction.Insn.{Insn}
 use Rattle.cet_isa.specs.declared.instruction.Insn.TheVariants as insn
 use Rattle.cet_isa.specs.Canonical.{canonical, fits}
@@ -34,6 +33,8 @@ use Rattle.cet_asm.specs.declared.part.Mark.TheVariants.{Again, Resumed, Past}
 use Rattle.cet_asm.specs.declared.part.Part.{Part}
 use Rattle.cet_asm.specs.declared.part.Part.TheVariants.{Whole, Branch, Resumption, Here}
 use Rattle.cet_asm.specs.declared.usage.Use.{Use}
+use Rattle.cet_asm.specs.declared.placed.Around.{Around}
+use Rattle.cet_asm.specs.declared.placed.Spot.{Spot}
 use Rattle.cet_asm.specs.Sequence.{sequence}
 
 -- ---- relocation types (psABI, "Relocation Types")
@@ -209,16 +210,6 @@ abbrev pub mark_place : Mark → List Part → ℕ
 mark_place m [] = 0
 mark_place m (Here n ∷ parts) = if same_mark m n then 0 else mark_place m parts
 mark_place m (part ∷ parts) = part_size part + mark_place m parts
-
--- where a statement stands: the offset in its section, and the function around it with its start
-pub record Around : Type 0 where
-  pub name : List ℕ
-  pub start : ℕ
-
-pub record Spot : Type 0 where
-  pub section : SectionName
-  pub offset : ℕ
-  pub around : Option Around
 
 -- R of a Switch is the symbol of the function around, with the distance from its start
 abbrev pub resumption_use : Option Around → ℕ → List Use

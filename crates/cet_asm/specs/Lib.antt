@@ -1,3 +1,9 @@
 pub mod Sequence
 pub mod Emitted
 pub mod Assembled
+pub mod Names
+pub mod Placing
+pub mod Tables
+pub mod Zeroed
+pub mod Whole
+pub mod Sound

@@ -1,26 +1,22 @@
 -- The sites: sequences of instructions that the certifier knows as one. A site's word means its written sequence, with long branches.
 -- Its own marks are no names of the text.
-use Rattle.std.specs.Prelude.{ℕ, ◌^◌, false, List, [], ◌∷◌, ◌++◌, ℤ, pos, negsuc, ◌+ℤ◌, Option, Some, None}
+use Rattle.std.specs.Prelude.{ℕ, false, List, [], ◌∷◌, ◌++◌, ℤ, pos, negsuc, ◌+ℤ◌, Some, None}
 use Rattle.cet_isa.specs.declared.register.Reg.{Reg}
 use Rattle.cet_isa.specs.declared.register.Reg.TheVariants.{Rax, Rcx, Rdx, Rbp, Rsp, Rsi, Rdi, R8, R9, R10, R15}
 use Rattle.cet_isa.specs.declared.operand.Width.TheVariants.{B4, B8}
 use Rattle.cet_isa.specs.declared.operand.Rel.TheVariants.{L}
 use Rattle.cet_isa.specs.declared.operand.Mem.{Mem}
-use Rattle.cet_isa.specs.declared.operand.Rm.{Rm}
 use Rattle.cet_isa.specs.declared.operand.Rm.TheVariants as rm
 use Rattle.cet_isa.specs.declared.operation.AluOp.TheVariants.{Add, Sub, Cmp}
 use Rattle.cet_isa.specs.declared.operation.ShiftOp.TheVariants.{Shr}
 use Rattle.cet_isa.specs.declared.operation.ShiftCount.TheVariants as count
-use Rattle.cet_isa.specs.declared.operation.Cond.{Cond}
 use Rattle.cet_isa.specs.declared.operation.Cond.TheVariants as cond
 use Rattle.cet_isa.specs.declared.instruction.Insn.{Insn}
 use Rattle.cet_isa.specs.declared.instruction.Insn.TheVariants as insn
 use Rattle.cet_syntax.specs.declared.template.Reference.{Reference}
-use Rattle.cet_syntax.specs.declared.template.Template.{Template}
 use Rattle.cet_syntax.specs.declared.statement.Site.{Site}
 use Rattle.cet_syntax.specs.declared.statement.Site.TheVariants as site
 use Rattle.cet_syntax.specs.Instruction.{stand_in}
-use Rattle.cet_asm.specs.declared.part.Mark.{Mark}
 use Rattle.cet_asm.specs.declared.part.Mark.TheVariants.{Again, Resumed, Past}
 use Rattle.cet_asm.specs.declared.part.Part.{Part}
 use Rattle.cet_asm.specs.declared.part.Part.TheVariants.{Whole, Branch, Resumption, Here}

@@ -1,4 +1,11 @@
 //! Why a text is not assembled.
+ghost use Rattle.std.specs.Prelude.{◌≡◌};
+ghost use Rattle.cet_asm.specs.Assembled.{kind_of};
+ghost use Rattle.cet_asm.specs.declared.error.AsmKind.TheVariants as kinds;
+
+use cet_base::NoMemory;
+use cet_syntax::SyntaxError;
+use std::alloc::AllocFailed;
 
 /// What is wrong.
 #[derive(Clone, Copy, Debug, PartialEq, Eq)]
@@ -17,6 +24,35 @@ pub enum AsmKind {
     TooMany,
     /// There was no memory for the object.
     NoMemory,
+}
+
+impl From<NoMemory> for AsmKind {
+    ghost from_gives = { λ _ kind. kind ≡ kinds.NoMemory };
+
+    fn from(_refused: NoMemory) -> AsmKind {
+        AsmKind::NoMemory
+    }
+}
+
+/// The value that was not stored is dropped.
+impl<T: Drop> From<AllocFailed<T>> for AsmKind {
+    ghost from_gives = { λ _ kind. kind ≡ kinds.NoMemory };
+
+    fn from(_refused: AllocFailed<T>) -> AsmKind {
+        AsmKind::NoMemory
+    }
+}
+
+impl From<SyntaxError> for AsmKind {
+    ghost from_gives = { λ error kind. kind ≡ kind_of error };
+
+    fn from(error: SyntaxError) -> AsmKind {
+        match error {
+            SyntaxError::Word => AsmKind::Word,
+            SyntaxError::Operand => AsmKind::Operand,
+            SyntaxError::Range => AsmKind::Range,
+        }
+    }
 }
 
 /// The first fault of a text, with its line from 1, or want of memory, with line 0.

@@ -14,7 +14,8 @@ use crate::part::{Mark, Part};
 use cet_isa::{AluOp, Cond, Insn, Mem, Reg, Rel, Rm, ShiftCount, ShiftOp, Width};
 use cet_syntax::{Name, Reference, Template};
 
-const STAND_IN: i32 = i32::MAX;
+/// What a name stands for until it is linked, so that its field has 32 bits.
+pub(crate) const STAND_IN: i32 = i32::MAX;
 
 fn plain<'a>(insn: Insn) -> Part<'a>
     ensures { result ≡ plain_of insn }

@@ -1,8 +1,8 @@
 //! The fields of an instruction that wait for the value of a symbol.
-ghost use Rattle.std.specs.Prelude.{◌≡◌, length, IsTrue, SomeIff};
+ghost use Rattle.std.specs.Prelude.{◌≡◌, ◌+◌, ◌<◌, ◌^◌, length, IsTrue, SomeIff};
 ghost use Rattle.std.specs.Int.{w64};
 ghost use Rattle.cet_isa.specs.Canonical.{fits};
-ghost use Rattle.cet_asm.specs.Emitted.{code_of, displacement_use as displacement_use_of, constant_use as constant_use_of};
+ghost use Rattle.cet_asm.specs.Emitted.{code_of, displacement_use as displacement_use_of, constant_use as constant_use_of, moved as moved_use};
 
 use crate::sizes::{
     R_X86_64_32S, R_X86_64_PC32, constant_bias, constant_kind, constant_size, is_rip_relative,
@@ -20,6 +20,19 @@ pub struct Use<'a> {
     pub kind: u32,
     pub name: Name<'a>,
     pub addend: i64,
+}
+
+impl<'a> Use<'a> {
+    /// The same behind this many bytes.
+    pub(crate) fn moved(self, by: u64) -> Use<'a>
+        requires { by + self.offset < 2 ^ 64 }
+        ensures { result ≡ moved_use by self.entry }
+    {
+        Use {
+            offset: by + self.offset,
+            ..self
+        }
+    }
 }
 
 /// The displacement of a memory operand, in a form of `len` bytes. None where the addend does not have 64 bits.
