@@ -1,4 +1,5 @@
 pub mod Words
+pub mod AsmWords
 pub mod Reports
 pub mod Checked
 pub mod Pairs

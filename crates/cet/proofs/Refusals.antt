@@ -1,33 +1,75 @@
 -- What a refusal that was told says of the command.
 use Rattle.std.proofs.Common.{◌≡◌, ℕ, suc, List, [], ◌∷◌, ◌++◌, map, Option, Some, None, Contains, inl, inr, refl, sym, subst, ◌∙◌, arith}
-use Rattle.std.specs.Prelude.{◌⊎◌}
+use Rattle.std.specs.Prelude.{◌⊎◌, ◌≢◌}
 use Rattle.cet_base.specs.Faults.{Rose}
-use Rattle.cet_base.specs.Files.{Contents, FileMeets, IsToldAbsent}
+use Rattle.cet_base.specs.Files.{Contents, FileMeets, IsToldAbsent, OthersStay}
 use Rattle.cet_base.specs.Sink.{Gains}
 use Rattle.cet.specs.declared.refusal.Refusal.{Refusal}
-use Rattle.cet.specs.declared.refusal.Refusal.TheVariants.{Unread, Unfit, NoMemory, Unwritten}
-use Rattle.cet.specs.Command.{Command, Asks, Names, files_of}
+use Rattle.cet.specs.declared.refusal.Refusal.TheVariants.{Unread, Unfit, Unreplaced, NoMemory, Unwritten}
+use Rattle.cet.specs.Command.{Command, CheckRaw, Asm, Dis, Notes, Asks, Names, files_of, replaced_by}
 use Rattle.cet.specs.declared.refusal.Unfit.{Unfit as Reason}
 use Rattle.cet.specs.Unfit.{bad_line, IsUnfitFor}
-use Rattle.cet.specs.Steps.{Step, Read, Form, Passes, Reaches, ComesTo, step_of, IsUnfit}
-use Rattle.cet.specs.Answer.{IsAnswer, AreThere, GainsOrFails}
-use Rattle.cet.specs.Refused.{Effects, HasCause, Tells}
+use Rattle.cet.specs.Steps.{Step, Read, Form, Replace, Passes, Reaches, ComesTo, step_of, IsUnfit}
+use Rattle.cet.specs.Answer.{IsReport, IsAnswer, AreThere, GainsOrFails, Leaves}
+use Rattle.cet.specs.Refused.{Effects, HasCause, Tells, LeavesRefused, IsUnread, IsUnreplaced}
+use Rattle.cet.specs.Text.{file_line}
 use Rattle.cet.proofs.Reports.{asks_one}
 
 -- a read that a command comes to is that of one of its files
-no_form_is_read : (P : Step → Type 0) (others : List (List ℕ)) (name : List ℕ) → Reaches P (map Form others) (Read name) → ⊥
-no_form_is_read P [] name reach = reach
-no_form_is_read P (other ∷ others) name (inl same) = absurd cc
-no_form_is_read P (other ∷ others) name (inr (passes, reach)) = no_form_is_read P others name reach
+no_form_is_read : (P : Step → Type 0) (others replaced : List (List ℕ)) (name : List ℕ) → Reaches P (map Form others ++ map Replace replaced) (Read name) → ⊥
+no_form_is_read P [] [] name reach = reach
+no_form_is_read P [] (first ∷ replaced) name (inl same) = absurd cc
+no_form_is_read P [] (first ∷ replaced) name (inr (passes, reach)) = no_form_is_read P [] replaced name reach
+no_form_is_read P (other ∷ others) replaced name (inl same) = absurd cc
+no_form_is_read P (other ∷ others) replaced name (inr (passes, reach)) = no_form_is_read P others replaced name reach
 
-reads_named : (P : Step → Type 0) (names others : List (List ℕ)) (name : List ℕ) → Reaches P (map Read names ++ map Form others) (Read name) → Contains names name
-reads_named P [] others name reach = absurd (no_form_is_read P others name reach)
-reads_named P (first ∷ names) others name (inl same) = (0, omega arith, cc)
-reads_named P (first ∷ names) others name (inr (passes, reach)) =
-    let (k, below, is) = reads_named P names others name reach in (suc k, omega arith, is)
+reads_named : (P : Step → Type 0) (names others replaced : List (List ℕ)) (name : List ℕ) → Reaches P (map Read names ++ (map Form others ++ map Replace replaced)) (Read name) → Contains names name
+reads_named P [] others replaced name reach = absurd (no_form_is_read P others replaced name reach)
+reads_named P (first ∷ names) others replaced name (inl same) = (0, omega arith, cc)
+reads_named P (first ∷ names) others replaced name (inr (passes, reach)) =
+    let (k, below, is) = reads_named P names others replaced name reach in (suc k, omega arith, is)
 
 read_is_named : (told : Option Contents) (command : Command) (name : List ℕ) → ComesTo told command (Read name) → Names command name
-read_is_named told command name comes = reads_named (Passes told command) (files_of command) (files_of command) name comes
+read_is_named told command name comes = reads_named (Passes told command) (files_of command) (files_of command) (replaced_by command) name comes
+
+-- status 3 is told of a file that could not be read or replaced
+pub unread_told : (e : Effects) (now : Option Contents) (command : Command) (refusal : Refusal) (status : ℕ) (old new : Option (List ℕ)) (before after : ℕ) → HasCause e command refusal → LeavesRefused e.files now refusal → Tells refusal status old new before after → status ≡ 3
+    → (name : List ℕ) × (IsUnread e.files now e.faults_before e.faults_after command name ⊎ IsUnreplaced e.files now e.faults_before e.faults_after command name) × GainsOrFails old new before after (file_line name)
+unread_told e now command (Unread name) status old new before after cause left (inl told) three = (name.now, inl (cause.1.0, cause.1.1, left), told.1)
+unread_told e now command (Unread name) status old new before after cause left (inr told) three = absurd (omega (arith, told.0))
+unread_told e now command (Unfit name why) status old new before after cause left (inl told) three = absurd (omega (arith, told.0))
+unread_told e now command (Unfit name why) status old new before after cause left (inr told) three = absurd (omega (arith, told.0))
+unread_told e now command (Unreplaced name line) status old new before after cause left told three =
+    (name.now, inr (cause.1.0, cause.1.1, left), subst (λ (text : List ℕ). GainsOrFails old new before after text) cause.1.2 told.1)
+unread_told e now command NoMemory status old new before after cause left told three = absurd (omega (arith, told.0))
+unread_told e now command Unwritten status old new before after cause left told three = absurd (omega (arith, told.0))
+
+-- the files stay with every other status
+pub refused_stays : (old now : Option Contents) (refusal : Refusal) (status : ℕ) (err_old err_new : Option (List ℕ)) (before after : ℕ) → LeavesRefused old now refusal → Tells refusal status err_old err_new before after → status ≢ 3 → now ≡ old
+refused_stays old now (Unread name) status err_old err_new before after left told other = left
+refused_stays old now (Unfit name why) status err_old err_new before after left told other = left
+refused_stays old now (Unreplaced name line) status err_old err_new before after left told other = absurd (other told.0)
+refused_stays old now NoMemory status err_old err_new before after left told other = left
+refused_stays old now Unwritten status err_old err_new before after left told other = left
+
+-- and with 1, which `asm` does not answer
+pub done_stays : (old now : Option Contents) (command : Command) (status : ℕ) (text : List ℕ) → Leaves old now command → IsReport old command status text → status ≢ 0 → now ≡ old
+done_stays old now (CheckRaw file) status text left is other = left
+done_stays old now (Asm out file) status text left (object, holds, zero, empty) other = absurd (other zero)
+done_stays old now (Dis file) status text left is other = left
+done_stays old now (Notes files) status text left is other = left
+
+-- files that stayed as they were are left so by every refusal
+others_stay : (old : Option Contents) (name : List ℕ) → OthersStay old old name
+others_stay None name = tt
+others_stay (Some files) name = λ other differs. refl
+
+pub stays_refused : (old now : Option Contents) (refusal : Refusal) → now ≡ old → LeavesRefused old now refusal
+stays_refused old now (Unread name) same = same
+stays_refused old now (Unfit name why) same = same
+stays_refused old now (Unreplaced name line) same = subst (λ (c : Option Contents). OthersStay old c name.now) (sym same) (others_stay old name.now)
+stays_refused old now NoMemory same = same
+stays_refused old now Unwritten same = same
 
 -- status 6 is told of a file that misses its form
 pub unfit_told : (e : Effects) (command : Command) (refusal : Refusal) (status : ℕ) (old new : Option (List ℕ)) (before after : ℕ) → HasCause e command refusal → Tells refusal status old new before after → status ≡ 6
@@ -36,6 +78,7 @@ unfit_told e command (Unread name) status old new before after cause (inl told) 
 unfit_told e command (Unread name) status old new before after cause (inr told) six = absurd (omega (arith, told.0))
 unfit_told e command (Unfit name why) status old new before after cause (inl told) six = (name.now, why, cause.1.0, cause.1.1, told.1)
 unfit_told e command (Unfit name why) status old new before after cause (inr told) six = absurd (omega (arith, told.0))
+unfit_told e command (Unreplaced name line) status old new before after cause told six = absurd (omega (arith, told.0))
 unfit_told e command NoMemory status old new before after cause told six = absurd (omega (arith, told.0))
 unfit_told e command Unwritten status old new before after cause told six = absurd (omega (arith, told.0))
 
@@ -63,5 +106,6 @@ refusal_is_answer e held asked command words (Unfit name why) status old new bef
       inr ([], _, inr (told.0, refl, (name.now, why, unfit, refl)), cause.0, gains))
   | inr rose ↦ absurd (err_stood rose.0)
 ]
+refusal_is_answer e held asked command words (Unreplaced name line) status old new before after tells first second there files_stood out_stood err_stood cause told = absurd (files_stood cause.1.1)
 refusal_is_answer e held asked command words NoMemory status old new before after tells first second there files_stood out_stood err_stood cause told = inl told.0
 refusal_is_answer e held asked command words Unwritten status old new before after tells first second there files_stood out_stood err_stood cause told = absurd (out_stood cause.0)

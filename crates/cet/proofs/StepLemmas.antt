@@ -5,12 +5,14 @@ use Rattle.cet_base.specs.Files.{Contents, FileMeets}
 use Rattle.cet_base.specs.Sink.{Gains}
 use Rattle.cet_base.proofs.SinkLemmas.{Rose-later}
 use Rattle.cet_note.specs.Note.{Note}
+use Rattle.cet_elf.specs.declared.object.Object.{Object}
+use Rattle.cet_asm.specs.Assembled.{Assembles}
 use Rattle.cet.specs.declared.refusal.Refusal.{Refusal}
-use Rattle.cet.specs.declared.refusal.Refusal.TheVariants.{Unread, Unfit, NoMemory, Unwritten}
-use Rattle.cet.specs.Command.{Command, Notes, files_of}
+use Rattle.cet.specs.declared.refusal.Refusal.TheVariants.{Unread, Unfit, Unreplaced, NoMemory, Unwritten}
+use Rattle.cet.specs.Command.{Command, Asm, Notes, files_of, replaced_by}
 use Rattle.cet.specs.Held.{HoldsBytes}
 use Rattle.cet.specs.Notes.{AllBoth, HoldsNote, IsFileNote}
-use Rattle.cet.specs.Steps.{Step, Read, Form, Passes, Reaches, ComesTo, HasForm}
+use Rattle.cet.specs.Steps.{Step, Read, Form, Replace, Passes, Reaches, ComesTo, HasForm}
 use Rattle.cet.specs.Refused.{Effects, HasCause, IsAtStep, IsOfFiles}
 use Rattle.cet.proofs.Reports.{meets_more}
 
@@ -49,18 +51,19 @@ module _ (told : Option Contents) (all : List (List ℕ)) where
   reads_come (name ∷ names) (bytes ∷ held) rest (suc i) d below holds = inr (passes_read told (Notes all) name bytes holds.0, reads_come names held rest i d (omega arith) holds.1)
 
   -- to the form numbered i
-  forms_come : (names held : List (List ℕ)) (notes : List Note) (i : ℕ) (d : List ℕ) → i < length names → AllBoth (HoldsBytes told) names held → AllBoth IsFileNote (take i held) notes → Reaches (Passes told (Notes all)) (map Form names) (Form (get_or names i d))
-  forms_come [] held notes i d below holds each = absurd (omega arith)
-  forms_come (name ∷ names) held notes zero d below holds each = inl refl
-  forms_come (name ∷ names) [] notes (suc i) d below holds each = absurd holds
-  forms_come (name ∷ names) (bytes ∷ held) [] (suc i) d below holds each = absurd each
-  forms_come (name ∷ names) (bytes ∷ held) (note ∷ notes) (suc i) d below holds each =
-      inr (passes_form name bytes note holds.0 each.0, forms_come names held notes i d (omega arith) holds.1 each.1)
+  forms_come : (names held : List (List ℕ)) (notes : List Note) (rest : List Step) (i : ℕ) (d : List ℕ) → i < length names → AllBoth (HoldsBytes told) names held → AllBoth IsFileNote (take i held) notes → Reaches (Passes told (Notes all)) (map Form names ++ rest) (Form (get_or names i d))
+  forms_come [] held notes rest i d below holds each = absurd (omega arith)
+  forms_come (name ∷ names) held notes rest zero d below holds each = inl refl
+  forms_come (name ∷ names) [] notes rest (suc i) d below holds each = absurd holds
+  forms_come (name ∷ names) (bytes ∷ held) [] rest (suc i) d below holds each = absurd each
+  forms_come (name ∷ names) (bytes ∷ held) (note ∷ notes) rest (suc i) d below holds each =
+      inr (passes_form name bytes note holds.0 each.0, forms_come names held notes rest i d (omega arith) holds.1 each.1)
 
 -- a refusal at a step that the command comes to
 of_files : (told : Option Contents) (before after : ℕ) (command : Command) (step : Step) (refusal : Refusal) → ComesTo told command step → IsAtStep told before after command step refusal → IsOfFiles told before after command refusal
 of_files told before after command step (Unread name) comes is = (subst (λ (s : Step). ComesTo told command s) is.0 comes, is.1)
 of_files told before after command step (Unfit name why) comes is = (subst (λ (s : Step). ComesTo told command s) is.0 comes, is.1)
+of_files told before after command step (Unreplaced name line) comes is = (subst (λ (s : Step). ComesTo told command s) is.0 comes, is.1, is.2)
 of_files told before after command step NoMemory comes is = tt
 of_files told before after command step Unwritten comes is = is
 
@@ -69,6 +72,7 @@ at_later : (told : Option Contents) (start before after : ℕ) (command : Comman
 at_later told start before after command step (Unread name) order is =
     (is.0, elim is.1 [ inl rose ↦ inl (Rose-later start before after order rose) | inr absent ↦ inr absent ])
 at_later told start before after command step (Unfit name why) order is = is
+at_later told start before after command step (Unreplaced name line) order is = (is.0, Rose-later start before after order is.1, is.2)
 at_later told start before after command step NoMemory order is = is
 at_later told start before after command step Unwritten order is = is
 
@@ -76,25 +80,32 @@ at_later told start before after command step Unwritten order is = is
 pub before_output : (e : Effects) (command : Command) (refusal : Refusal) → Gains e.out_before e.out_after [] → IsOfFiles e.files e.faults_before e.faults_after command refusal → HasCause e command refusal
 before_output e command (Unread name) silent cause = (silent, cause)
 before_output e command (Unfit name why) silent cause = (silent, cause)
+before_output e command (Unreplaced name line) silent cause = (silent, cause)
 before_output e command NoMemory silent cause = (silent, cause)
 before_output e command Unwritten silent cause = absurd cause
 
 -- a command of one file refused at its read, and at its form
 pub one_read_refused : (told : Option Contents) (before after : ℕ) (command : Command) (name : List ℕ) (refusal : Refusal) → files_of command ≡ name ∷ [] → IsAtStep told before after command (Read name) refusal → IsOfFiles told before after command refusal
 one_read_refused told before after command name refusal one at =
-    of_files told before after command (Read name) refusal (subst (λ (names : List (List ℕ)). Reaches (Passes told command) (map Read names ++ map Form names) (Read name)) (sym one) (inl refl)) at
+    of_files told before after command (Read name) refusal (subst (λ (names : List (List ℕ)). Reaches (Passes told command) (map Read names ++ (map Form names ++ map Replace (replaced_by command))) (Read name)) (sym one) (inl refl)) at
 
 pub one_form_refused : (told : Option Contents) (before after : ℕ) (command : Command) (name bytes : List ℕ) (refusal : Refusal) → files_of command ≡ name ∷ [] → HoldsBytes told name bytes → IsAtStep told before after command (Form name) refusal → IsOfFiles told before after command refusal
 one_form_refused told before after command name bytes refusal one holds at =
     of_files told before after command (Form name) refusal
-    (subst (λ (names : List (List ℕ)). Reaches (Passes told command) (map Read names ++ map Form names) (Form name)) (sym one) (inr (passes_read told command name bytes holds, inl refl)))
+    (subst (λ (names : List (List ℕ)). Reaches (Passes told command) (map Read names ++ (map Form names ++ map Replace (replaced_by command))) (Form name)) (sym one) (inr (passes_read told command name bytes holds, inl refl)))
     at
+
+-- `asm` comes to the replacement of its file where the other one holds the text of an object
+pub asm_replaces : (told : Option Contents) (out file text : List ℕ) (object : Object) → HoldsBytes told file text → Assembles text object → ComesTo told (Asm out file) (Replace out)
+asm_replaces told out file text object holds is =
+    let form : FileMeets told file (HasForm (Asm out file)) = meets_more told file (λ held. held ≡ text) (HasForm (Asm out file)) (λ held same. (object, subst (λ (b : List ℕ). Assembles b object) (sym same) is)) holds.0 in
+    inr (passes_read told (Asm out file) file text holds, inr (form, inl refl))
 
 -- the read numbered i refused
 pub read_refused : (told : Option Contents) (start before after : ℕ) (names held : List (List ℕ)) (i : ℕ) (name : List ℕ) (refusal : Refusal) → i < length names → get_or names i name ≡ name → AllBoth (HoldsBytes told) (take i names) held → start ≤ before → IsAtStep told before after (Notes names) (Read name) refusal → IsOfFiles told start after (Notes names) refusal
 read_refused told start before after names held i name refusal below is holds order at =
     of_files told start after (Notes names) (Read name) refusal
-    (subst (λ (n : List ℕ). ComesTo told (Notes names) (Read n)) is (reads_come told names names held (map Form names) i name below holds))
+    (subst (λ (n : List ℕ). ComesTo told (Notes names) (Read n)) is (reads_come told names names held (map Form names ++ []) i name below holds))
     (at_later told start before after (Notes names) (Read name) refusal order at)
 
 -- the form numbered i refused
@@ -102,7 +113,7 @@ pub form_refused : (told : Option Contents) (before after : ℕ) (names held : L
 form_refused told before after names held notes i name refusal below is holds each at =
     of_files told before after (Notes names) (Form name) refusal
     (subst (λ (n : List ℕ). ComesTo told (Notes names) (Form n)) is
-    (reads_pass told names names held (map Form names) (Form (get_or names i name)) holds (forms_come told names names held notes i name below holds each)))
+    (reads_pass told names names held (map Form names ++ []) (Form (get_or names i name)) holds (forms_come told names names held notes [] i name below holds each)))
     at
 
 -- the bytes of the file numbered i

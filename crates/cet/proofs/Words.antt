@@ -1,5 +1,5 @@
 -- The items of a list, and the texts of words.
-use Rattle.std.proofs.Common.{◌≡◌, ℕ, suc, ◌-◌, ◌<◌, ◌≤◌, List, [], ◌∷◌, length, get_or, take, drop, String, codes, arith, ap, sym, ◌∙◌}
+use Rattle.std.proofs.Common.{◌≡◌, ℕ, suc, ◌-◌, ◌<◌, ◌≤◌, List, [], ◌∷◌, ◌++◌, length, get_or, take, drop, String, codes, arith, ap, sym, ◌∙◌}
 use Rattle.std.specs.Global.{Global}
 use Rattle.std.specs.String.{string_bytes}
 use Rattle.std.proofs.lemmas.List.{get_or-map, length-map, take_all}
@@ -43,3 +43,15 @@ other_verb words verb others files split other asks = other (cc (split, asks.0))
 
 pub other_files : (words : List (List ℕ)) (verb : List ℕ) (others files : List (List ℕ)) → words ≡ verb ∷ others → (AreFileNames others → ⊥) → Asks words (Notes files) → ⊥
 other_files words verb others files split other asks = let same : files ≡ others = cc (split, asks.0) in other (rw same at asks.1)
+
+-- the words before the last, and the last
+pub texts-last : (words : List (String Global)) (last : String Global) → 1 ≤ length words → last ≡ get_or words (length words - 1) last → texts words ≡ texts (take (length words - 1) words) ++ string_bytes last ∷ []
+texts-last [] last some is = absurd (omega arith)
+texts-last (word ∷ []) last some is = ap (λ (w : String Global). string_bytes w ∷ []) (sym is)
+texts-last (word ∷ other ∷ words) last some is =
+    let less : suc (suc (length words)) - 1 ≡ suc (length words) = omega arith in
+    let behind : suc (length words) - 1 ≡ length words = omega arith in
+    let is_last : last ≡ get_or (other ∷ words) (suc (length words) - 1) last = is ∙ ap (λ (n : ℕ). get_or (word ∷ other ∷ words) n last) less ∙ sym (ap (λ (n : ℕ). get_or (other ∷ words) n last) behind) in
+    let rest = texts-last (other ∷ words) last (omega arith) is_last in
+    let front : take (suc (suc (length words)) - 1) (word ∷ other ∷ words) ≡ word ∷ take (suc (length words) - 1) (other ∷ words) = ap (λ (n : ℕ). take n (word ∷ other ∷ words)) less ∙ ap (λ (n : ℕ). word ∷ take n (other ∷ words)) (sym behind) in
+    ap (λ (ts : List (List ℕ)). string_bytes word ∷ ts) rest ∙ sym (ap (λ (ws : List (String Global)). texts ws ++ string_bytes last ∷ []) front)

@@ -1,14 +1,14 @@
 -- What the program's own refusals say: the cause of each, and the status and line that tell it.
 use Rattle.std.specs.Prelude.{◌≡◌, ℕ, List, [], Option, ◌⊎◌}
 use Rattle.cet_base.specs.Faults.{Rose}
-use Rattle.cet_base.specs.Files.{Contents, FileMeets, IsToldAbsent}
+use Rattle.cet_base.specs.Files.{Contents, FileMeets, IsToldAbsent, OthersStay}
 use Rattle.cet_base.specs.Sink.{Gains, GainsPart}
 use Rattle.cet.specs.declared.refusal.Refusal.{Refusal}
-use Rattle.cet.specs.declared.refusal.Refusal.TheVariants.{Unread, Unfit, NoMemory, Unwritten}
+use Rattle.cet.specs.declared.refusal.Refusal.TheVariants.{Unread, Unfit, Unreplaced, NoMemory, Unwritten}
 use Rattle.cet.specs.Command.{Command}
 use Rattle.cet.specs.Text.{file_line}
 use Rattle.cet.specs.Unfit.{bad_line, IsUnfitFor}
-use Rattle.cet.specs.Steps.{Step, Read, ComesTo, step_of, IsUnfit}
+use Rattle.cet.specs.Steps.{Step, Read, Replace, ComesTo, step_of, IsUnfit}
 use Rattle.cet.specs.Answer.{IsReport, GainsOrFails}
 
 -- what the files told, and their counts and the output before and after
@@ -25,6 +25,7 @@ pub record Effects : Type 0 where
 abbrev pub IsAtStep : Option Contents → ℕ → ℕ → Command → Step → Refusal → Type 0
 IsAtStep files before after command step (Unread name) = (step ≡ Read name.now) × (Rose before after ⊎ IsToldAbsent files name.now)
 IsAtStep files before after command step (Unfit name why) = (step ≡ step_of why name.now) × FileMeets files name.now (IsUnfitFor command why)
+IsAtStep files before after command step (Unreplaced name told) = (step ≡ Replace name.now) × Rose before after × (told.items ≡ file_line name.now)
 IsAtStep files before after command step NoMemory = Unit {0}
 IsAtStep files before after command step Unwritten = ⊥
 
@@ -32,6 +33,7 @@ IsAtStep files before after command step Unwritten = ⊥
 abbrev pub IsOfFiles : Option Contents → ℕ → ℕ → Command → Refusal → Type 0
 IsOfFiles files before after command (Unread name) = ComesTo files command (Read name.now) × (Rose before after ⊎ IsToldAbsent files name.now)
 IsOfFiles files before after command (Unfit name why) = IsUnfit files command name.now why
+IsOfFiles files before after command (Unreplaced name told) = ComesTo files command (Replace name.now) × Rose before after × (told.items ≡ file_line name.now)
 IsOfFiles files before after command NoMemory = Unit {0}
 IsOfFiles files before after command Unwritten = ⊥
 
@@ -40,9 +42,23 @@ abbrev pub HasCause : Effects → Command → Refusal → Type 0
 HasCause e command Unwritten = Rose e.out_faults_before e.out_faults_after × ((status : ℕ) × (text : List ℕ) × GainsPart e.out_before e.out_after text × IsReport e.files command status text)
 HasCause e command refusal = Gains e.out_before e.out_after [] × IsOfFiles e.files e.faults_before e.faults_after command refusal
 
+-- a file of this name could not be read when its step came: it is absent, or the count of faults rose
+abbrev pub IsUnread : Option Contents → Option Contents → ℕ → ℕ → Command → List ℕ → Type 0
+IsUnread old now before after command name = ComesTo old command (Read name) × (Rose before after ⊎ IsToldAbsent old name) × (now ≡ old)
+
+-- a file of this name could not be replaced when its step came: the count of faults rose, and no other file changed
+abbrev pub IsUnreplaced : Option Contents → Option Contents → ℕ → ℕ → Command → List ℕ → Type 0
+IsUnreplaced old now before after command name = ComesTo old command (Replace name) × Rose before after × OthersStay old now name
+
+-- what the refusal leaves of the files: all as they were, but for one that could not be replaced
+abbrev pub LeavesRefused : Option Contents → Option Contents → Refusal → Type 0
+LeavesRefused old now (Unreplaced name told) = OthersStay old now name.now
+LeavesRefused old now refusal = now ≡ old
+
 -- the refusal was told by this status and on standard error, or there was no memory for the line
 abbrev pub Tells : Refusal → ℕ → Option (List ℕ) → Option (List ℕ) → ℕ → ℕ → Type 0
 Tells (Unread name) status old new before after = ((status ≡ 3) × GainsOrFails old new before after (file_line name.now)) ⊎ ((status ≡ 4) × Gains old new [])
+Tells (Unreplaced name told) status old new before after = (status ≡ 3) × GainsOrFails old new before after told.items
 Tells (Unfit name why) status old new before after = ((status ≡ 6) × GainsOrFails old new before after (bad_line name.now why)) ⊎ ((status ≡ 4) × Gains old new [])
 Tells NoMemory status old new before after = (status ≡ 4) × Gains old new []
 Tells Unwritten status old new before after = (status ≡ 5) × Gains old new []

@@ -1,13 +1,15 @@
 -- The steps of a command that can refuse a file, in their order. The first that does decides.
-use Rattle.std.specs.Prelude.{◌≡◌, ◌≢◌, ◌≤◌, ◌⊎◌, ℕ, List, [], ◌∷◌, ◌++◌, length, map, Option}
+use Rattle.std.specs.Prelude.{◌≡◌, ◌≢◌, ◌≤◌, ◌⊎◌, ℕ, List, [], ◌∷◌, ◌++◌, length, map, Option, ⊤}
 use Rattle.cet_base.specs.declared.reading.TheConstants.{FILE_LIMIT}
 use Rattle.cet_base.specs.Files.{Contents, FileMeets}
 use Rattle.cet_rules.specs.Raw.{raw_start}
 use Rattle.cet_listing.specs.Listing.{IsListed}
 use Rattle.cet_note.specs.Note.{Note}
+use Rattle.cet_elf.specs.declared.object.Object.{Object}
+use Rattle.cet_asm.specs.Assembled.{Assembles}
 use Rattle.cet.specs.declared.refusal.Unfit.{Unfit}
 use Rattle.cet.specs.declared.refusal.Unfit.TheVariants.{TooLarge}
-use Rattle.cet.specs.Command.{Command, CheckRaw, Dis, Notes, files_of}
+use Rattle.cet.specs.Command.{Command, CheckRaw, Asm, Dis, Notes, files_of, replaced_by}
 use Rattle.cet.specs.Notes.{IsFileNote}
 use Rattle.cet.specs.Unfit.{IsUnfitFor}
 
@@ -16,14 +18,17 @@ pub data Step : Type 0 where
   Read : (file : List ℕ) → Step
   -- its form is looked at
   Form : (file : List ℕ) → Step
+  -- the file of this name is replaced
+  Replace : (file : List ℕ) → Step
 
--- every file is read before the form of any
+-- every file is read before the form of any is looked at, and none is replaced before
 abbrev pub steps_of : Command → List Step
-steps_of command = map Read (files_of command) ++ map Form (files_of command)
+steps_of command = map Read (files_of command) ++ (map Form (files_of command) ++ map Replace (replaced_by command))
 
 -- a file of the command that holds this is of its form
 abbrev pub HasForm : Command → List ℕ → Type 0
 HasForm (CheckRaw file) held = held ≢ []
+HasForm (Asm out file) held = (object : Object) × Assembles held object
 HasForm (Dis file) held = (held ≢ []) × IsListed raw_start held
 HasForm (Notes files) held = (note : Note) × IsFileNote held note
 
@@ -31,6 +36,7 @@ HasForm (Notes files) held = (note : Note) × IsFileNote held note
 abbrev pub Passes : Option Contents → Command → Step → Type 0
 Passes files command (Read file) = FileMeets files file (λ held. length held ≤ FILE_LIMIT)
 Passes files command (Form file) = FileMeets files file (HasForm command)
+Passes files command (Replace file) = ⊤
 
 -- the step is one of these, and P holds of each before it
 abbrev pub Reaches : (Step → Type 0) → List Step → Step → Type 0

@@ -8,14 +8,17 @@ use Rattle.cet_isa.specs.declared.decode_error.DecodeError.TheVariants.{Short, O
 use Rattle.cet_elf.specs.declared.error.ElfError.{ElfError}
 use Rattle.cet_elf.specs.declared.error.ElfError.TheVariants as elf
 use Rattle.cet_elf.specs.ObjectFile.{object_fault}
+use Rattle.cet_asm.specs.declared.error.AsmKind.{AsmKind}
+use Rattle.cet_asm.specs.declared.error.AsmKind.TheVariants as asm
+use Rattle.cet_asm.specs.Assembled.{IsAsmFault}
 use Rattle.cet_rules.specs.Raw.{raw_start}
 use Rattle.cet_listing.specs.Listing.{StopsAt}
 use Rattle.cet_note.specs.declared.fault.NoteError.{NoteError}
 use Rattle.cet_note.specs.declared.fault.NoteError.TheVariants as faults
 use Rattle.cet_note.specs.Fault.{note_in}
 use Rattle.cet.specs.declared.refusal.Unfit.{Unfit}
-use Rattle.cet.specs.declared.refusal.Unfit.TheVariants.{Empty, TooLarge, NoObject, NoNote, NoForm}
-use Rattle.cet.specs.Command.{Command, CheckRaw, Dis, Notes}
+use Rattle.cet.specs.declared.refusal.Unfit.TheVariants.{Empty, TooLarge, NoObject, NoNote, NoForm, NoAssembly}
+use Rattle.cet.specs.Command.{Command, CheckRaw, Asm, Dis, Notes}
 use Rattle.cet.specs.Notes.{BeginsElf, HasNoteBytes}
 
 -- the word for the fault of a note
@@ -71,19 +74,31 @@ abbrev pub no_form_word : DecodeError → List ℕ
 no_form_word Short = codes "short"
 no_form_word Outside = codes "outside"
 
+-- the word for what is wrong with an assembly text
+abbrev pub asm_word : AsmKind → List ℕ
+asm_word asm.Word = codes "word"
+asm_word asm.Operand = codes "operand"
+asm_word asm.Range = codes "range"
+asm_word asm.Label = codes "label"
+asm_word asm.Twice = codes "twice"
+asm_word asm.TooMany = codes "toomany"
+asm_word asm.NoMemory = codes "nomemory"
+
 abbrev pub reason : Unfit → List ℕ
 reason Empty = codes "empty"
 reason TooLarge = codes "toolarge"
 reason (NoObject fault) = elf_word fault
 reason (NoNote fault) = fault_word fault
 reason (NoForm at why) = no_form_word why
+reason (NoAssembly fault) = asm_word fault.kind
 
--- where: at the start of the file, at the offset of a field in it, at that of a field in its note, or at the address of the bytes that are no
--- form
+-- where: at the start of the file, at the offset of a field in it, at that of a field in its note, at the address of the bytes that are no
+-- form, or on a line
 abbrev pub place : Unfit → List ℕ
 place (NoObject fault) = decimal (elf_place fault)
 place (NoNote fault) = decimal (fault_place fault)
 place (NoForm at why) = hexadecimal at
+place (NoAssembly fault) = decimal fault.line
 place why = codes "0"
 
 -- the file of this name is not of its form, or passes a limit
@@ -94,6 +109,7 @@ bad_line name why = line (codes "cet: bad " ++ name ++ codes " at " ++ place why
 abbrev pub IsUnfitFor : Command → Unfit → List ℕ → Type 0
 IsUnfitFor command TooLarge held = FILE_LIMIT < length held
 IsUnfitFor (CheckRaw file) Empty held = held ≡ []
+IsUnfitFor (Asm out file) (NoAssembly fault) held = IsAsmFault held fault
 IsUnfitFor (Dis file) Empty held = held ≡ []
 IsUnfitFor (Dis file) (NoForm at why) held = StopsAt raw_start held at why
 IsUnfitFor (Notes files) (NoObject fault) held = BeginsElf held × (object_fault held ≡ Some fault)

@@ -2,10 +2,11 @@
 
 ghost use Rattle.std.specs.Prelude.{◌≡◌, ◌↔◌, ℕ, List, All, IsTrue, IfSome, IfNone, IfOk, IfErr};
 ghost use Rattle.cet_base.specs.Sink.{Gains};
-ghost use Rattle.cet.specs.Command.{CheckRaw, Dis, Notes, Asks, AreRefused, IsFileName, AreFileNames, texts};
-ghost use Rattle.cet.specs.Answer.{IsReport};
-ghost use Rattle.cet.specs.Refused.{HasCause};
+ghost use Rattle.cet.specs.Command.{CheckRaw, Asm, Dis, Notes, Asks, AreRefused, NameOut, AreOut, IsFileName, AreFileNames, texts};
+ghost use Rattle.cet.specs.Answer.{IsReport, Leaves};
+ghost use Rattle.cet.specs.Refused.{HasCause, LeavesRefused};
 
+use crate::asm::asm;
 use crate::check_raw::check_raw;
 use crate::dis::dis;
 use crate::notes::notes;
@@ -17,6 +18,8 @@ use std::alloc::Global;
 pub enum Command<'a> {
     /// `check --raw FILE`.
     CheckRaw(&'a str),
+    /// `asm --out FILE FILE`: the file to be written, and the file to be read.
+    Asm(&'a str, &'a str),
     /// `dis FILE`.
     Dis(&'a str),
     /// `notes FILE...`.
@@ -63,6 +66,50 @@ fn check_raw_file(words: &[String]) -> Option<&str>
     }
 }
 
+// What `--out WORD` or `--out=WORD` names.
+fn out_word(words: &[String]) -> Option<&str>
+    ensures found { IfSome result (λ out. NameOut (texts words.now) out.now) }
+    ensures none { IfNone result ((out : List ℕ) → ¬ NameOut (texts words.now) out) }
+{
+    match words {
+        [option, out] if option.as_str() == "--out" => Some(out.as_str()),
+        [option] => option.as_str().strip_prefix("--out="),
+        _ => None,
+    }
+}
+
+#[tactic(auto, using(crate::proofs::AsmWords::one_out))]
+// The file of `--out FILE` or `--out=FILE`.
+fn out_file(words: &[String]) -> Option<&str>
+    ensures found { IfSome result (λ out. AreOut (texts words.now) out.now) }
+    ensures none { IfNone result ((out : List ℕ) → ¬ AreOut (texts words.now) out) }
+{
+    let out = out_word(words)?;
+    if is_file_name(out) { Some(out) } else { None }
+}
+
+// The files of `asm --out FILE FILE`, where the option may stand behind as well.
+fn asm_files(words: &[String]) -> Option<(&str, &str)>
+    ensures found { IfSome result (λ files. Asks (texts words.now) (Asm files.0.now files.1.now)) }
+    ensures none { IfNone result ((out file : List ℕ) → ¬ Asks (texts words.now) (Asm out file)) }
+{
+    let [verb, words @ ..] = words else {
+        return None;
+    };
+    if verb.as_str() != "asm" {
+        return None;
+    }
+    match words {
+        [file, option @ ..] if is_file_name(file.as_str()) => {
+            Some((out_file(option)?, file.as_str()))
+        }
+        [option @ .., file] if is_file_name(file.as_str()) => {
+            Some((out_file(option)?, file.as_str()))
+        }
+        _ => None,
+    }
+}
+
 // The file of `dis FILE`.
 fn dis_file(words: &[String]) -> Option<&str>
     ensures found { IfSome result (λ file. Asks (texts words.now) (Dis file.now)) }
@@ -103,6 +150,9 @@ impl<'a> Command<'a> {
         if let Some(file) = check_raw_file(words) {
             return Some(Command::CheckRaw(file));
         }
+        if let Some((out, file)) = asm_files(words) {
+            return Some(Command::Asm(out, file));
+        }
         if let Some(file) = dis_file(words) {
             return Some(Command::Dis(file));
         }
@@ -119,7 +169,8 @@ impl<'a> Command<'a> {
         files: &mut F,
         out: &mut O,
     ) -> Result<u8, Refusal<'a>>
-        ensures contents { F.contents files.new ≡ F.contents files.old }
+        ensures left { IfOk result (λ status. Leaves (F.contents files.old) (F.contents files.new) (named self.entry)) }
+        ensures left_refused { IfErr result (LeavesRefused (F.contents files.old) (F.contents files.new)) }
         ensures reported { IfOk result (λ status. (text : List ℕ) × Gains (O.bytes out.old) (O.bytes out.new) text
             × IsReport (F.contents files.old) (named self.entry) status text) }
         ensures refused { IfErr result (HasCause (record {
@@ -134,6 +185,7 @@ impl<'a> Command<'a> {
     {
         match self {
             Command::CheckRaw(file) => check_raw(alloc, file, files, out),
+            Command::Asm(to, file) => asm(alloc, to, file, files),
             Command::Dis(file) => dis(alloc, file, files, out),
             Command::Notes(names) => notes(alloc, names, files, out),
         }

@@ -1,8 +1,10 @@
-//! The program `cet`: `check --raw` certifies a file of raw code, `dis` lists one, `notes` prints and merges property notes.
+//! The program `cet`: `asm` makes an object of an assembly text, `check --raw` certifies a file of raw code, `dis` lists one, `notes` prints and
+//! merges property notes.
 //! `top` does all that the program does; its contract is by the definitions `Command`, `Text` and `Answer` of `specs/`.
 //! `main` hands it the real files and outputs.
 #![tactic(auto)]
 
+mod asm;
 mod check_raw;
 mod command;
 mod dis;

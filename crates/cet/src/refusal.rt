@@ -5,9 +5,10 @@ ghost use Rattle.std.specs.String.{string_bytes};
 ghost use Rattle.cet_base.specs.Text.{hexadecimal};
 ghost use Rattle.cet.specs.Answer.{GainsOrFails};
 ghost use Rattle.cet.specs.Text.{file_line as line_of_file};
-ghost use Rattle.cet.specs.Unfit.{reason, place as place_of, bad_line, elf_word as word_of_elf, elf_place as place_in_file, fault_word as word_of, no_form_word as word_of_no_form, fault_place as offset_of};
+ghost use Rattle.cet.specs.Unfit.{reason, place as place_of, bad_line, elf_word as word_of_elf, elf_place as place_in_file, fault_word as word_of, asm_word as word_of_asm, no_form_word as word_of_no_form, fault_place as offset_of};
 
 use crate::status;
+use cet_asm::{AsmError, AsmKind};
 use cet_base::{NoMemory, Sink, write_all};
 use cet_elf::ElfError;
 use cet_isa::DecodeError;
@@ -25,6 +26,8 @@ pub enum Unfit {
     NoObject(ElfError),
     /// What it has as its property note is none, for this fault.
     NoNote(NoteError),
+    /// It is no assembly text, for this fault, where one is asked for.
+    NoAssembly(AsmError),
     /// The bytes at an address are no instruction, for this reason, where a listing is asked for.
     NoForm { at: u64, why: DecodeError },
 }
@@ -107,6 +110,21 @@ fn no_form_word(why: DecodeError) -> &'static str
     }
 }
 
+// The word for what is wrong with an assembly text.
+fn asm_word(kind: AsmKind) -> &'static str
+    ensures { result.now ≡ word_of_asm kind }
+{
+    match kind {
+        AsmKind::Word => "word",
+        AsmKind::Operand => "operand",
+        AsmKind::Range => "range",
+        AsmKind::Label => "label",
+        AsmKind::Twice => "twice",
+        AsmKind::TooMany => "toomany",
+        AsmKind::NoMemory => "nomemory",
+    }
+}
+
 // An address as text.
 fn address(at: u64, alloc: Global) -> Result<String, AllocError>
     ensures { IfOk result (λ text. string_bytes text ≡ hexadecimal at) }
@@ -123,6 +141,7 @@ impl Unfit {
             Unfit::TooLarge => "toolarge",
             Unfit::NoObject(fault) => elf_word(fault),
             Unfit::NoNote(fault) => fault_word(fault),
+            Unfit::NoAssembly(fault) => asm_word(fault.kind),
             Unfit::NoForm { why, .. } => no_form_word(why),
         }
     }
@@ -133,6 +152,7 @@ impl Unfit {
         match self {
             Unfit::NoObject(fault) => elf_place(fault).to_string(alloc),
             Unfit::NoNote(fault) => fault_place(fault).to_string(alloc),
+            Unfit::NoAssembly(fault) => fault.line.to_string(alloc),
             Unfit::NoForm { at, .. } => address(at, alloc),
             _ => String::from_str(alloc, "0"),
         }
@@ -146,6 +166,8 @@ pub enum Refusal<'a> {
     Unread(&'a str),
     /// The file of this name is not of its form.
     Unfit(&'a str, Unfit),
+    /// The file of this name could not be replaced. The line that tells it was made before.
+    Unreplaced(&'a str, Vec<u8>),
     /// There was no memory; nothing was written.
     NoMemory,
     /// The output failed.
@@ -159,8 +181,8 @@ pub fn say<E: Sink>(err: &mut E, text: &[u8])
     let _ = write_all(err, text);
 }
 
-// The line `cet: file NAME`.
-fn file_line(alloc: Global, name: &str) -> Result<Vec<u8>, NoMemory>
+/// The line `cet: file NAME`.
+pub fn file_line(alloc: Global, name: &str) -> Result<Vec<u8>, NoMemory>
     ensures { IfOk result (λ text. text.items ≡ line_of_file name.now) }
 {
     let mut text = Vec::from_slice(alloc, b"cet: file ")?;
@@ -192,6 +214,10 @@ impl Refusal<'_> {
     {
         let (line, status) = match self {
             Refusal::Unread(name) => (file_line(alloc, name), status::UNREAD),
+            Refusal::Unreplaced(_, line) => {
+                say(err, line);
+                return status::UNREAD;
+            }
             Refusal::Unfit(name, why) => (unfit_line(alloc, name, *why), status::UNFIT),
             Refusal::NoMemory => return status::NO_MEMORY,
             Refusal::Unwritten => return status::UNWRITTEN,

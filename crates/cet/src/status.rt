@@ -9,7 +9,7 @@ pub const REFUSED: u8 = 1;
 /// The words are no command.
 pub const WORDS: u8 = 2;
 
-/// A file could not be read.
+/// A file could not be read or replaced.
 pub const UNREAD: u8 = 3;
 
 /// There was no memory; nothing was written.

@@ -6,6 +6,7 @@ use cet_base::{Failed, Files, MemFiles, MemSink, NoMemory, Sink};
 use std::alloc::Global;
 use std::test::Fail;
 
+mod asm;
 mod dis;
 mod notes;
 mod real_files;

@@ -2,7 +2,7 @@
 
 ghost use Rattle.std.specs.Prelude.{◌≡◌, ◌≢◌, ◌≤◌, ◌<◌, ◌↔◌, ◌⊎◌, ℕ, List, [], Some};
 ghost use Rattle.cet_base.specs.Faults.{Rose};
-ghost use Rattle.cet_base.specs.Files.{Contents, FileMeets, IsToldAbsent};
+ghost use Rattle.cet_base.specs.Files.{Contents, FileMeets};
 ghost use Rattle.cet_base.specs.Sink.{Gains, GainsPart};
 ghost use Rattle.cet_rules.specs.declared.verdict.Verdict.TheVariants.{Accepted};
 ghost use Rattle.cet_rules.specs.Report.{report};
@@ -10,8 +10,9 @@ ghost use Rattle.cet.specs.Command.{Command, CheckRaw, Asks, AreRefused, texts};
 ghost use Rattle.cet.specs.Text.{words_line, file_line};
 ghost use Rattle.cet.specs.declared.refusal.Unfit.{Unfit};
 ghost use Rattle.cet.specs.Unfit.{bad_line, IsUnfitFor};
-ghost use Rattle.cet.specs.Steps.{Read, step_of, ComesTo};
-ghost use Rattle.cet.specs.Answer.{WithCommand, IsReport, IsAnswer, IsCertified, AreThere, GainsOrFails};
+ghost use Rattle.cet.specs.Steps.{step_of, ComesTo};
+ghost use Rattle.cet.specs.Refused.{IsUnread, IsUnreplaced};
+ghost use Rattle.cet.specs.Answer.{WithCommand, IsReport, IsAnswer, IsCertified, AreThere, GainsOrFails, Leaves};
 
 use crate::command::Command as Request;
 use crate::refusal::say;
@@ -21,16 +22,17 @@ use cet_sound::soundness;
 use std::alloc::Global;
 
 /// Carries out the command of the words, the verb first, and answers the status. `check --raw FILE` certifies raw code;
-/// `dis FILE` lists raw code; `notes FILE...` prints the property note of each file and what a link of them may claim.
+/// `asm --out OUT FILE` makes the file OUT the object of an assembly text; `dis FILE` lists raw code; `notes FILE...` prints the property note of each file and what a link of them may claim.
 ///
-/// Statuses: 0 done, or accepted; 1 a rule is broken; 2 the words are no command; 3 a file could not be read; 4 no memory;
+/// Statuses: 0 done, or accepted; 1 a rule is broken; 2 the words are no command; 3 a file could not be read or replaced; 4 no memory;
 /// 5 the output failed; 6 a file is not of its form or over its limit. It may be 4 in place of any answer but 2.
 ///
 /// How the contract reads. `Gains old new text`: the output took the whole text and nothing else. `GainsPart old new text`: it took some first
 /// part of it, which may be empty or the whole. `GainsOrFails`: the whole, or a first part where its count of faults rose. `Rose old new`: that
 /// count rose in this call. `WithCommand words P`: the words ask for a command, and P holds of it. `ComesTo files command step`: every earlier
-/// step of the command passed. `FileMeets files name P`: the file of this name exists, and P holds of its bytes. Where the files or an output do
-/// not tell what they hold, `FileMeets` and the `Gains` of it say nothing, and no file `IsToldAbsent`.
+/// step of the command passed. `FileMeets files name P`: the file of this name exists, and P holds of its bytes. `Replaces old new name bytes`: the
+/// file of this name now holds these bytes, and no other changed. Where the files or an output do not tell what they hold, `FileMeets`, `Replaces`
+/// and the `Gains` of it say nothing, and no file `IsToldAbsent`.
 pub fn top<F: Files, O: Sink, E: Sink>(
     alloc: Global,
     words: &[String],
@@ -39,7 +41,6 @@ pub fn top<F: Files, O: Sink, E: Sink>(
     err: &mut E,
 ) -> u8
     ensures statuses { result ≤ 6 }
-    ensures files_stay { F.contents files.new ≡ F.contents files.old }
 
     // 0 of `check --raw`: the output gained `accepted`, and the file's code keeps the rules and no run of it ends by a missed ENDBR64.
     ensures accepted { (name : List ℕ) → Asks (texts words.now) (CheckRaw name) → result ≡ 0
@@ -48,13 +49,18 @@ pub fn top<F: Files, O: Sink, E: Sink>(
     ensures reported { result < 2 → WithCommand (texts words.now) (λ command. (text : List ℕ)
         × Gains (O.bytes out.old) (O.bytes out.new) text × IsReport (F.contents files.old) command result text) }
 
+    // 0: `asm` has made the file after `--out` the object file of the text; no other file changed, and other commands change none.
+    ensures replaced { result ≡ 0 → WithCommand (texts words.now) (Leaves (F.contents files.old) (F.contents files.new)) }
+
     // 2: exactly where the words are no command; the line is `cet: words`.
     ensures words { (result ≡ 2) ↔ AreRefused (texts words.now) }
     ensures words_said { result ≡ 2 → GainsOrFails (E.bytes err.old) (E.bytes err.new) (E.faults err.old) (E.faults err.new) words_line }
 
-    // 3: only where the files' count of faults rose in this call, or the file is known not to exist; the line is `cet: file NAME`.
-    ensures unread { result ≡ 3 → WithCommand (texts words.now) (λ command. (name : List ℕ) × ComesTo (F.contents files.old) command (Read name)
-        × (Rose (F.faults files.old) (F.faults files.new) ⊎ IsToldAbsent (F.contents files.old) name)
+    // 3: only where a file to be read is known not to exist, or the files' count of faults rose in this call, at the read or at the replacement of
+    // a file, which alone it then may have changed; the line is `cet: file NAME`.
+    ensures unread { result ≡ 3 → WithCommand (texts words.now) (λ command. (name : List ℕ)
+        × (IsUnread (F.contents files.old) (F.contents files.new) (F.faults files.old) (F.faults files.new) command name
+        ⊎ IsUnreplaced (F.contents files.old) (F.contents files.new) (F.faults files.old) (F.faults files.new) command name)
         × GainsOrFails (E.bytes err.old) (E.bytes err.new) (E.faults err.old) (E.faults err.new) (file_line name)) }
 
     // 4: out of memory, which may come at any step before something is written: nothing is, as below.
@@ -70,7 +76,8 @@ pub fn top<F: Files, O: Sink, E: Sink>(
         × ComesTo (F.contents files.old) command (step_of why name) × FileMeets (F.contents files.old) name (IsUnfitFor command why)
         × GainsOrFails (E.bytes err.old) (E.bytes err.new) (E.faults err.old) (E.faults err.new) (bad_line name why)) }
 
-    // With 2, 3, 4 and 6 nothing goes to the output; with 0, 1, 4 and 5 nothing goes to standard error.
+    // With all but 0 and 3 no file changes. With 2, 3, 4 and 6 nothing goes to the output; with 0, 1, 4 and 5 nothing goes to standard error.
+    ensures files_stay { result ≢ 0 → result ≢ 3 → F.contents files.new ≡ F.contents files.old }
     ensures output_silent { 2 ≤ result → result ≢ 5 → Gains (O.bytes out.old) (O.bytes out.new) [] }
     ensures error_silent { result ≢ 2 → result ≢ 3 → result ≢ 6 → Gains (E.bytes err.old) (E.bytes err.new) [] }
 

@@ -1,6 +1,5 @@
-use Rattle.std.proofs.Common.{◌≡◌, List, ℕ, Option, sym, subst, ap, ◌∙◌, Some}
+use Rattle.std.proofs.Common.{◌≡◌, List, ℕ, sym, subst}
 use Rattle.std.specs.Prelude.{◌≢◌}
-use Rattle.cet_base.specs.Files.{Contents, FileMeets}
 use Rattle.cet_elf.specs.declared.error.ElfError.{ElfError}
 use Rattle.cet_elf.specs.declared.error.ElfError.TheVariants.{NoMemory}
 use Rattle.cet_elf.specs.Faults.{IsFirst}

@@ -1,6 +1,5 @@
-use Rattle.std.proofs.Common.{◌≡◌, List, ℕ, Option, Result, Err, refl}
+use Rattle.std.proofs.Common.{◌≡◌, Result, Err, refl}
 use Rattle.std.specs.Prelude.{◌≢◌}
-use Rattle.cet_base.specs.Files.{Contents, FileMeets}
 use Rattle.cet_note.specs.declared.fault.NoteError.{NoteError}
 use Rattle.cet_note.specs.declared.fault.NoteError.TheVariants.{NoMemory, Cut, Name, Kind, Size, Order, Twice}
 use Rattle.cet_note.specs.Fault.{Fails}
