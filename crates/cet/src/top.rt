@@ -21,8 +21,9 @@ use cet_base::{Files, Sink};
 use cet_sound::soundness;
 use std::alloc::Global;
 
-/// Carries out the command of the words, the verb first, and answers the status. `check --raw FILE` certifies raw code;
-/// `asm --out OUT FILE` makes the file OUT the object of an assembly text; `dis FILE` lists raw code; `notes FILE...` prints the property note of each file and what a link of them may claim.
+/// Carries out the command of the words, the verb first, and answers the status. `asm --out OUT FILE` makes the file OUT the object of an assembly
+/// text; `check --raw FILE` certifies raw code; `dis FILE` lists raw code; `notes FILE...` prints the property note of each file and what a link of
+/// them may claim.
 ///
 /// Statuses: 0 done, or accepted; 1 a rule is broken; 2 the words are no command; 3 a file could not be read or replaced; 4 no memory;
 /// 5 the output failed; 6 a file is not of its form or over its limit. It may be 4 in place of any answer but 2.

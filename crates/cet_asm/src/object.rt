@@ -270,7 +270,7 @@ fn assembled<'a>(
     })
 }
 
-// The same, where it can be written: each object that statements of a text give can.
+// The same object, where it can be written.
 fn regular(object: Object) -> Result<Object, NoMemory>
     ensures same { IfOk result (λ same. same ≡ object) }
     ensures regular { IfOk result IsRegular }
