@@ -1,8 +1,7 @@
 -- What is known of names, section by section: this project's own.
 use Rattle.std.specs.Prelude.{ℕ, List, Option}
-use Rattle.std.specs.BTreeMap.{get_by}
-use Rattle.std.specs.Ordering.{nat_cmp}
-use Rattle.std.specs.Cmp.Lexicographic.{slice_cmp}
+use Rattle.std.specs.HashMap.{get_by}
+use Rattle.std.specs.Str.{bytes_eq}
 use Rattle.cet_syntax.specs.declared.statement.SectionName.{SectionName}
 use Rattle.cet_syntax.specs.declared.statement.SectionName.TheVariants.{Text, Rodata, Data, Bss}
 use Rattle.cet_asm.specs.declared.table.Table.{Table}
@@ -16,7 +15,7 @@ by_section text rodata written zeros Bss = zeros
 
 -- the number of a name
 abbrev pub number_at : Table → List ℕ → Option ℕ
-number_at table name = get_by (λ key. slice_cmp nat_cmp name key.now) table.numbers
+number_at table name = get_by (λ key. bytes_eq name key.now) table.numbers
 
 abbrev pub table_at : Targets → SectionName → Table
 table_at t section = by_section t.text t.rodata t.data t.bss section

@@ -48,7 +48,7 @@ fn or_behind(line: u32, kind: Option<AsmKind>, behind: Option<AsmError>) -> Opti
     }
 }
 
-/// The first fault in the order of lines. It takes time that grows with the number of statements and the logarithm of that of names.
+/// The first fault in the order of lines. It takes time that grows with the number of statements.
 pub(crate) fn first_late<'a>(targets: &Targets<'a>, placed: &[Placed<'a>]) -> Option<AsmError>
     ensures { result ≡ first_late_of (targets_at targets.now) placed.now }
 {

@@ -6,7 +6,7 @@ ghost use Rattle.cet_asm.specs.Placing.{DefinesMark, MeetsNames};
 use cet_base::NoMemory;
 use cet_syntax::SectionName;
 use std::alloc::Global;
-use std::collections::BTreeMap;
+use std::collections::HashMap;
 
 /// Where a name is defined.
 #[derive(Clone, Copy, Debug, PartialEq, Eq)]
@@ -18,10 +18,10 @@ pub(crate) struct Target {
     pub(crate) is_label: bool,
 }
 
-/// The names that were met, and where they are defined. Each call takes time that grows with the logarithm of their number.
+/// The names that were met, and where they are defined.
 #[derive(Drop)]
 pub(crate) struct Names<'a> {
-    known: BTreeMap<&'a [u8], Option<Target>>,
+    known: HashMap<&'a [u8], Option<Target>>,
 }
 
 impl<'a> Names<'a> {
@@ -31,7 +31,7 @@ impl<'a> Names<'a> {
         ensures count { count_of result ≡ 0 }
     {
         Names {
-            known: BTreeMap::new(alloc),
+            known: HashMap::new(alloc),
         }
     }
 

@@ -298,7 +298,7 @@ fn whole<'a>(alloc: Global, placed: &[Placed<'a>]) -> Result<Result<Object, AsmE
 }
 
 /// The object of statements in their places, or the first fault that shows when all are known. The time it takes grows with the number
-/// of statements and bytes, and the logarithm of the number of names. Above 1 GiB of bytes it answers want of memory.
+/// of statements and bytes. Above 1 GiB of bytes it answers want of memory.
 pub(crate) fn object(alloc: Global, placed: &[Placed<'_>]) -> Result<Object, AsmError>
     ensures object { IfOk result (λ object. whole_of placed.now ≡ Ok object) }
     ensures fault { IfErr result (λ e. e.kind ≢ fault.NoMemory → whole_of placed.now ≡ Err e) }

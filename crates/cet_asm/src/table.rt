@@ -6,12 +6,12 @@ ghost use Rattle.cet_asm.specs.Tables.{number_at};
 
 use cet_base::NoMemory;
 use std::alloc::Global;
-use std::collections::BTreeMap;
+use std::collections::HashMap;
 
 /// Names with a number each, the one that was first given.
 #[derive(Drop)]
 pub(crate) struct Table<'a> {
-    numbers: BTreeMap<&'a [u8], u64>,
+    numbers: HashMap<&'a [u8], u64>,
 }
 
 impl<'a> Table<'a> {
@@ -20,7 +20,7 @@ impl<'a> Table<'a> {
         ensures { (name : List ℕ) → number_at result name ≡ None }
     {
         Table {
-            numbers: BTreeMap::new(alloc),
+            numbers: HashMap::new(alloc),
         }
     }
 

@@ -5,6 +5,8 @@ use std::alloc::Global;
 use std::process::Abort;
 use std::test::Fail;
 
+mod objects;
+
 // The text has this many statements, and each stands.
 fn check_count(rt: &impl Abort, alloc: Global, text: &[u8], count: usize) {
     let found = match place(alloc, text) {
@@ -55,7 +57,19 @@ fn statements_stand(rt: HostRuntime) -> Result<(), Fail> {
 
 #[test]
 fn statements_are_wrong_or_out_of_place(rt: HostRuntime) -> Result<(), Fail> {
-    let word: [&[u8]; 14] = [
+    let word: [&[u8]; 26] = [
+        b"\nhalt",
+        b"\nnop\0",
+        b"\n\xff",
+        b"\nmov.8\trax, rbx",
+        b"\n.word0",
+        b"\n.End",
+        b"\na : nop",
+        b"\n1a:",
+        b"\nlock ret",
+        b"\nnotrack ret",
+        b"\nlea.2 rax, [rbx]",
+        b"\nread @a, 1",
         b"nop\nmov.2 rax, rbx",
         b"nop\nthrow",
         b"nop\n.end",
@@ -74,7 +88,46 @@ fn statements_are_wrong_or_out_of_place(rt: HostRuntime) -> Result<(), Fail> {
     for text in word {
         check_fault(&rt, rt.alloc(), text, 2, AsmKind::Word);
     }
-    let operand: [&[u8]; 8] = [
+    let operand: [&[u8]; 47] = [
+        b"\ncall a+1",
+        b"\nje.s a-1",
+        b"\nnop \xc3\xa9",
+        b"\nret 8",
+        b"\nmov.8 rax, rbx,",
+        b"\nmov.8 5, rax",
+        b"\nmov.8 rax, [rbx+rcx]",
+        b"\nmov.8 rax, [rbx+0]",
+        b"\nld.8 rax, [rip]",
+        b"\nld.8 rax, [ rbx]",
+        b"\nmov.8 rax, @",
+        b"\nmov.8 rax, @rbx",
+        b"\nmov.8 rax, @a*2",
+        b"\nmov.8 rax, 0x",
+        b"\nmov.8 rax, +1",
+        b"\nlea.8 rax, rbx",
+        b"\njmp.s @a",
+        b"\nnotrack jmp a",
+        b"\n.section",
+        b"\n.func",
+        b"\n.func rax",
+        b"\n.object a",
+        b"\n.global",
+        b"\n.word",
+        b"\n.word @a+1",
+        b"\n.byte @a",
+        b"\n.zero a",
+        b"\n.align",
+        b"\n.off a",
+        b"\n.note",
+        b"\n.note ibt ibt",
+        b"\n.note cet",
+        b".func f\n.end f",
+        b".func f\nland 8",
+        b".func f\nrelease @a",
+        b".func f\nthrow 1",
+        b".func f\nswitch @a",
+        b".func f\nfibermake @a, b",
+        b".func f\nspawn @a",
         b"nop\nmov.8 rax",
         b"\n.section code",
         b".section data; .off a, t\nt:",
@@ -107,7 +160,45 @@ fn line_of_operand(text: &[u8]) -> u32 {
 
 #[test]
 fn numbers_pass_their_fields(rt: HostRuntime) -> Result<(), Fail> {
-    let range: [&[u8]; 9] = [
+    let range: [&[u8]; 47] = [
+        b"\n.byte -129",
+        b"\n.word 18446744073709551616",
+        b"\n.word -9223372036854775809",
+        b"\n.zero 18446744073709551616",
+        b"\n.zero -1",
+        b"\n.align 0",
+        b"\n.align 32",
+        b"\n.section data; .object a 18446744073709551616",
+        b"\nmov.1 rax, -129",
+        b"\nmov.4 rax, 2147483648",
+        b"\nadd.8 rax, -2147483649",
+        b"\npush 2147483648",
+        b"\nmovabs.1 rax, -1",
+        b"\nmovabs.1 rax, 256",
+        b"\nmovabs.4 rax, 4294967296",
+        b"\nmovabs.8 rax, 18446744073709551616",
+        b"\nmov.1 rax, @a",
+        b"\nshl.8 rax, 256",
+        b"\nshl.8 rax, -1",
+        b"\nshl.8 rax, @a",
+        b"\njmp.s $128",
+        b"\nje.s $-129",
+        b"\ncall $2147483648",
+        b"\njmp $-2147483649",
+        b"\nld.8 rax, [2147483648]",
+        b"\nld.8 rax, [rbx-2147483649]",
+        b"\nld.8 rax, [rbx*3]",
+        b"\nld.8 rax, [rbx+rsp*1]",
+        b"\nmul.1 rbx",
+        b"\ncdq.1",
+        b"\nmov.8 rax, @a+9223372036854775808",
+        b".func f\nland 2147483616, @a",
+        b".func f\nland -2147483649, @a",
+        b".func f\nrelease 2147483648",
+        b".func f\naction 4294967296, @a",
+        b".func f\naction -1, @a",
+        b".func f\nread @a, 4294967296",
+        b".func f\nread @a, -1",
         b"nop\n.align 3",
         b"nop\n.byte 256",
         b"nop\nmov.1 rax, 128",
@@ -167,5 +258,24 @@ fn names_have_at_most_255_bytes(rt: HostRuntime) -> Result<(), Fail> {
     let mut text = Vec::from_slice(rt.alloc(), b"jmp.s ")?;
     text.extend_from_slice(&letters(rt.alloc(), 256)?)?;
     check_fault(&rt, rt.alloc(), &text, 1, AsmKind::Operand);
+    Ok(())
+}
+
+// So many labels, a line each, then a name that is only made global, and then one that is used.
+fn labels(alloc: Global, count: u32) -> Result<String, Fail> {
+    let mut text = String::new(alloc);
+    for n in 0..count {
+        writeln!(text, "a{n}:")?;
+    }
+    text.push_str(".global b; jmp.s a1\ncall c")?;
+    Ok(text)
+}
+
+#[test]
+fn texts_have_at_most_65535_names(rt: HostRuntime) -> Result<(), Fail> {
+    let text = labels(rt.alloc(), 65_534)?;
+    check_count(&rt, rt.alloc(), text.as_bytes(), 65_537);
+    let text = labels(rt.alloc(), 65_535)?;
+    check_fault(&rt, rt.alloc(), text.as_bytes(), 65_537, AsmKind::TooMany);
     Ok(())
 }

@@ -1,11 +1,11 @@
 use Rattle.std.proofs.Common.{◌+◌, cond, is_some, ap, ◌∙◌}
-use Rattle.std.specs.BTreeMap.{btree_map_len}
-use Rattle.std.proofs.lemmas.Map.Text.{btree_map_updates_str}
+use Rattle.std.specs.HashMap.{hash_map_len}
+use Rattle.std.proofs.lemmas.Map.Text.{hash_map_updates_str}
 use Rattle.cet_asm.proofs.Known.{DefinesMark-put}
 use Rattle.cet_asm.proofs.names.Names.define.Goals as goal
 
 pub returns : goal.returns
 returns c =
     DefinesMark-put c.args.self.now (record { known = c.insert.new.self }) c.args.name.now c.args.target
-    (btree_map_updates_str c.args.name.now c.args.self.now.known c.insert.new.self _ c.in_ok-insert.ensures.updates)
-    (c.in_ok-insert.ensures.len ∙ ap (λ o. btree_map_len c.args.self.now.known + cond (is_some o) 0 1) c.in_ok-insert.ensures.old)
+    (hash_map_updates_str c.args.name.now c.args.self.now.known c.insert.new.self _ c.in_ok-insert.ensures.updates)
+    (c.in_ok-insert.ensures.len ∙ ap (λ o. hash_map_len c.args.self.now.known + cond (is_some o) 0 1) c.in_ok-insert.ensures.old)

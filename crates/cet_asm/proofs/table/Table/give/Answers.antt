@@ -2,7 +2,7 @@ use Rattle.std.proofs.Common.{◌≡◌, ℕ, Bool, true, false, cond, List, Opt
 use Rattle.std.specs.Option.{option_or}
 use Rattle.std.specs.Str.{bytes_eq}
 use Rattle.std.proofs.lemmas.Slice.Eq.{bytes_eq-Decides}
-use Rattle.std.proofs.lemmas.Map.Text.{btree_map_updates_str}
+use Rattle.std.proofs.lemmas.Map.Text.{hash_map_updates_str}
 use Rattle.cet_asm.specs.Tables.{number_at}
 use Rattle.cet_asm.proofs.table.Table.give.Goals as goal
 
@@ -18,5 +18,5 @@ returns-in_ok-insert c = λ other.
     let key = c.args.name.now in
     let old = number_at c.args.self.now in
     let free : old key ≡ None = search rules in
-    let after = btree_map_updates_str key c.args.self.now.numbers c.insert.new.self (Some c.args.number) c.in_ok-insert.ensures.updates other in
+    let after = hash_map_updates_str key c.args.self.now.numbers c.insert.new.self (Some c.args.number) c.in_ok-insert.ensures.updates other in
     after ∙ given (bytes_eq key other) old key other c.args.number (bytes_eq-Decides key other).0 free
