@@ -9,6 +9,8 @@ mod layout;
 mod loading;
 mod process;
 mod signals;
+#[cfg(test)]
+mod tests;
 
 pub use cet_process::{Event, LoadError, Outcome, View};
 pub use loading::load;
