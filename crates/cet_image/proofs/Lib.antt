@@ -1,0 +1,5 @@
+pub mod Overlaps
+pub mod Named
+pub mod LayoutLemmas
+pub mod Places
+pub mod OneList

@@ -1,0 +1,5 @@
+pub mod Executable
+pub mod Faults
+pub mod ImageOf
+pub mod Lookup
+pub mod Laws
