@@ -1,0 +1,5 @@
+pub mod Counts
+pub mod Digits
+pub mod Limits
+pub mod Lines
+pub mod Parts

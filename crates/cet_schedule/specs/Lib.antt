@@ -1,0 +1,5 @@
+pub mod Entry
+pub mod Fields
+pub mod Narrowed
+pub mod Number
+pub mod Schedule
