@@ -12,7 +12,7 @@ use cet_process::{Event, Outcome};
 use std::alloc::Global;
 
 /// The most events of a report, which takes less than 1 GiB. Where a run has more, that is want of memory.
-const MOST_EVENTS: usize = 8_388_608;
+pub(crate) const MOST_EVENTS: usize = 8_388_608;
 
 /// Applies one event: the given one of this index, or else a step of the next living thread from the number `from` on. `None` where the process has
 /// ended, or there is no event to choose.
@@ -61,7 +61,7 @@ fn apply_all(
 }
 
 /// How a run ended, after which this is how the process ended, if it has.
-fn last_of(end: Option<Outcome>, applied: usize, limit: u32) -> RunEnd
+pub(crate) fn last_of(end: Option<Outcome>, applied: usize, limit: u32) -> RunEnd
     ensures { result ≡ last_of end applied limit }
 {
     match end {

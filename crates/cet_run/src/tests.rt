@@ -14,7 +14,7 @@ use std::alloc::{AllocError, Global};
 use std::test::Fail;
 
 #[derive(Debug, Drop)]
-enum Stop {
+pub(crate) enum Stop {
     // the bytes are no code of an image
     Code,
     Load(LoadError),
@@ -65,7 +65,7 @@ fn segment(alloc: Global, code: &[u8]) -> Result<Segment, Stop>
     })
 }
 
-fn process(alloc: Global, code: &[u8], features: Features) -> Result<Process, Stop> {
+pub(crate) fn process(alloc: Global, code: &[u8], features: Features) -> Result<Process, Stop> {
     let mut segments = SegmentList::new(alloc);
     segments.push(segment(alloc, code)?)?;
     let image = Image {
@@ -105,7 +105,7 @@ fn run_of(
 }
 
 // 1: call 2f; ud2; 2: call 3f; 3: ret
-const CALLS: &[u8] = b"\xe8\x02\x00\x00\x00\x0f\x0b\xe8\x00\x00\x00\x00\xc3";
+pub(crate) const CALLS: &[u8] = b"\xe8\x02\x00\x00\x00\x0f\x0b\xe8\x00\x00\x00\x00\xc3";
 
 // mov edi, 7; mov eax, 231; syscall
 const EXIT_7: &[u8] = b"\xbf\x07\x00\x00\x00\xb8\xe7\x00\x00\x00\x0f\x05";
@@ -113,6 +113,11 @@ const EXIT_7: &[u8] = b"\xbf\x07\x00\x00\x00\xb8\xe7\x00\x00\x00\x0f\x05";
 // mov edi, 1; mov esi, 0x401000; mov edx, 7; mov eax, 1; syscall; ud2: the first seven bytes of the code are written
 const WRITES: &[u8] =
     b"\xbf\x01\x00\x00\x00\xbe\x00\x10\x40\x00\xba\x07\x00\x00\x00\xb8\x01\x00\x00\x00\x0f\x05\x0f\x0b";
+
+// mov eax, 56; mov edi, 0x50f00; mov esi, 1; syscall; mov ebx, eax; lea rsi, [rax+0x401000]; mov edi, 1; mov edx, 1; mov eax, 1; syscall;
+// mov edi, ebx; mov eax, 60; syscall: two threads, each of which writes one byte of the code and ends with what clone answered it
+const TWO_THREADS: &[u8] =
+    b"\xb8\x38\x00\x00\x00\xbf\x00\x0f\x05\x00\xbe\x01\x00\x00\x00\x0f\x05\x89\xc3\x48\x8d\xb0\x00\x10\x40\x00\xbf\x01\x00\x00\x00\xba\x01\x00\x00\x00\xb8\x01\x00\x00\x00\x0f\x05\x89\xdf\xb8\x3c\x00\x00\x00\x0f\x05";
 
 // 1: jmp 1b
 const LOOPS: &[u8] = b"\xeb\xfe";
@@ -133,7 +138,12 @@ fn runs(rt: HostRuntime) -> Result<(), Fail> {
         free: 0,
         answer: 0,
     };
-    let rows: [(&[u8], bool, &[Event], u32, &str); 15] = [
+    let child = Event::Step {
+        thread: 1,
+        free: 0,
+        answer: 0,
+    };
+    let rows: [(&[u8], bool, &[Event], u32, &str); 18] = [
         (
             CALLS,
             false,
@@ -198,6 +208,35 @@ fn runs(rt: HostRuntime) -> Result<(), Fail> {
             &[],
             9,
             "events 6 ignored 0\noutput bf01000000be00\ndied thread 0 ud at 0x401016\n",
+        ),
+        // the child makes the first step after the clone, then the two in turn
+        (
+            TWO_THREADS,
+            true,
+            &[],
+            99,
+            "events 22 ignored 0\noutput b800\nended 2\n",
+        ),
+        // the caller ends first
+        (
+            TWO_THREADS,
+            false,
+            &[
+                step, step, step, step, step, step, step, step, step, step, step, step, step,
+            ],
+            99,
+            "events 22 ignored 0\noutput 00b8\nended 0\n",
+        ),
+        // the child waits for its turn, and has ended then
+        (
+            TWO_THREADS,
+            false,
+            &[
+                child, step, step, step, step, child, child, child, child, child, child, child,
+                child, child, child,
+            ],
+            99,
+            "events 24 ignored 2\noutput b800\nended 2\n",
         ),
         // hlt
         (

@@ -1,0 +1,144 @@
+//! The run of one process whose events choosers choose, and watchers see, that the caller hands in.
+ghost use Rattle.std.specs.Prelude.{◌≡◌, ◌≤◌, [], map, reverse, length, IfOk, OnOk};
+ghost use Rattle.cet_process.specs.Run.{state_after};
+ghost use Rattle.cet_run.specs.Report.{done as done_of, last as last_of_run};
+ghost use Rattle.cet_run.specs.BoxTurn.{ChoosesNext, BoxTurns};
+ghost use Rattle.cet_run.specs.Boxes.{applied, BeginsWith, AreChosen, AreWatched, UsesGiven, IsRun};
+
+use crate::report::{Done, DoneList, Report};
+use crate::running::{MOST_EVENTS, last_of};
+use cet_base::{Bytes, NoMemory};
+use cet_choosers::{Chooser, Watcher, show};
+use cet_kernel::Process;
+use cet_process::{Event, View};
+use std::alloc::Global;
+
+/// The next event: the given one of this index, or else that of the last chooser that has one.
+fn next_event<C: Chooser>(
+    view: View,
+    given: &[Event],
+    index: usize,
+    choosers: &mut Vec<C>,
+) -> Option<Event>
+    ensures { ChoosesNext view given.now index (map C.plan (reverse choosers.old.items)) (map C.plan (reverse choosers.new.items)) result }
+{
+    if let Some(event) = given.get(index) {
+        return Some(*event);
+    }
+    cet_choosers::next_event(choosers, view)
+}
+
+/// Applies one event: the given one of this index, or else that of the last chooser that has one. `None` where the process has ended, or there is
+/// no event to choose.
+fn turn<C: Chooser>(
+    process: &mut Process,
+    given: &[Event],
+    index: usize,
+    choosers: &mut Vec<C>,
+) -> Result<Option<Done>, NoMemory>
+    ensures { IfOk result (BoxTurns process.old process.new given.now index (map C.plan (reverse choosers.old.items)) (map C.plan (reverse choosers.new.items))) }
+{
+    if process.ended().is_some() {
+        return Ok(None);
+    }
+    match next_event(process.view(), given, index, choosers) {
+        None => Ok(None),
+        Some(event) => {
+            let outcome = process.apply(event)?;
+            Ok(Some(Done { event, outcome }))
+        }
+    }
+}
+
+/// Applies the events of a run, shows each to the watchers, and keeps each with its outcome. The first chooser stands last.
+fn apply_all<C: Chooser, W: Watcher>(
+    process: &mut Process,
+    given: &[Event],
+    choosers: &mut Vec<C>,
+    watchers: &mut Vec<W>,
+    limit: u32,
+    events: &mut DoneList,
+) -> Result<(), NoMemory>
+    requires { events.old ≡ [] }
+    ensures run { OnOk result (IsRun process.old given.now (map C.plan (reverse choosers.old.items)) limit process.new events.new) }
+    ensures watched { OnOk result (AreWatched (map W.seen watchers.old.items) events.new (map W.seen watchers.new.items)) }
+    ensures untouched { OnOk result (events.new ≡ [] → watchers.new.items ≡ watchers.old.items) }
+{
+    for index in 0..limit as usize {
+        if index == MOST_EVENTS {
+            return Err(NoMemory);
+        }
+        let turned = turn(process, given, index, choosers)?;
+        match turned {
+            None => return Ok(()),
+            Some(done) => {
+                show(watchers, done.event, done.outcome);
+                events.push(done)?;
+            }
+        }
+    }
+    Ok(())
+}
+
+/// Runs a process: the given events are applied, then what the first chooser answers. A chooser that answers `None` is dropped, and the next one takes
+/// over. After each event each watcher sees it with its outcome, in order; those that have seen enough are dropped, and the others stay in the
+/// list. It ends where the process ends, where `limit` events were applied, or where no chooser is left. The report has each event with its outcome,
+/// in order. A run of more than 8,388,608 events answers `NoMemory`, after which nothing is said of the watchers.
+pub fn run_with<C: Chooser, W: Watcher>(
+    alloc: Global,
+    mut process: Process,
+    given: &[Event],
+    mut choosers: Vec<C>,
+    watchers: &mut Vec<W>,
+    limit: u32,
+) -> Result<Report, NoMemory>
+    ensures events { IfOk result (λ report. report.events ≡ done_of process (applied report.events)) }
+    ensures output { IfOk result (λ report. report.output ≡ (state_after process (applied report.events)).output) }
+    ensures last { IfOk result (λ report. report.last ≡ last_of_run (state_after process (applied report.events)).end (length report.events) limit) }
+    ensures given_first { IfOk result (λ report. BeginsWith given.now (applied report.events)) }
+    ensures within { IfOk result (λ report. length report.events ≤ limit) }
+    ensures used { IfOk result (λ report. UsesGiven process given.now limit report.events) }
+    ensures chosen { IfOk result (λ report. AreChosen process given.now (map C.plan choosers.items) limit (applied report.events)) }
+    ensures watched { IfOk result (λ report. AreWatched (map W.seen watchers.old.items) report.events (map W.seen watchers.new.items)) }
+    ensures untouched { IfOk result (λ report. report.events ≡ [] → watchers.new.items ≡ watchers.old.items) }
+{
+    choosers.reverse();
+    let mut events = DoneList::new(alloc);
+    apply_all(
+        &mut process,
+        given,
+        &mut choosers,
+        watchers,
+        limit,
+        &mut events,
+    )?;
+    let output = Bytes::from_slice(alloc, process.output())?;
+    let last = last_of(process.ended(), events.len(), limit);
+    Ok(Report {
+        events,
+        output,
+        last,
+    })
+}
+
+/// The same with boxes, so that choosers and watchers of several types take part.
+pub fn run_boxed(
+    alloc: Global,
+    process: Process,
+    given: &[Event],
+    choosers: Vec<Box<dyn Chooser>>,
+    watchers: &mut Vec<Box<dyn Watcher>>,
+    limit: u32,
+) -> Result<Report, NoMemory>
+    ensures events { IfOk result (λ report. report.events ≡ done_of process (applied report.events)) }
+    ensures output { IfOk result (λ report. report.output ≡ (state_after process (applied report.events)).output) }
+    ensures last { IfOk result (λ report. report.last ≡ last_of_run (state_after process (applied report.events)).end (length report.events) limit) }
+    ensures given_first { IfOk result (λ report. BeginsWith given.now (applied report.events)) }
+    ensures within { IfOk result (λ report. length report.events ≤ limit) }
+    ensures used { IfOk result (λ report. UsesGiven process given.now limit report.events) }
+    ensures chosen { IfOk result (λ report. AreChosen process given.now (map (λ c. plan c) choosers.items) limit (applied report.events)) }
+    ensures watched { IfOk result (λ report. AreWatched (map (λ w. seen w) watchers.old.items) report.events (map (λ w. seen w) watchers.new.items)) }
+    ensures untouched { IfOk result (λ report. report.events ≡ [] → watchers.new.items ≡ watchers.old.items) }
+{
+    run_with(alloc, process, given, choosers, watchers, limit)
+}
