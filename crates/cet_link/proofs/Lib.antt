@@ -1,0 +1,17 @@
+pub mod UniqueLemmas
+pub mod PlanLemmas
+pub mod OverflowLemmas
+pub mod KeepLemmas
+pub mod FaultLemmas
+pub mod LayoutLemmas
+pub mod LinkLemmas
+pub mod LoopLemmas
+pub mod MeasureLemmas
+pub mod NameLemmas
+pub mod NoteLemmas
+pub mod PatchLemmas
+pub mod RegularLemmas
+pub mod ScanLemmas
+pub mod SegmentLemmas
+pub mod UndefinedLemmas
+pub mod ValueLemmas

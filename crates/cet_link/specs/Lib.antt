@@ -1,0 +1,13 @@
+pub mod First
+pub mod Inputs
+pub mod Names
+pub mod Places
+pub mod Values
+pub mod Patched
+pub mod Linked
+pub mod Notes
+pub mod Faults
+pub mod Links
+pub mod Known
+pub mod Laid
+pub mod Planned
