@@ -6,14 +6,14 @@ use Rattle.cet_base.specs.Files.{Contents, FileMeets, IsToldAbsent, OthersStay}
 use Rattle.cet_base.specs.Sink.{Gains}
 use Rattle.cet.specs.declared.refusal.Refusal.{Refusal}
 use Rattle.cet.specs.declared.refusal.Refusal.TheVariants.{Unread, Unfit, Unreplaced, NoMemory, Unwritten}
-use Rattle.cet.specs.Command.{Command, CheckRaw, Asm, Dis, Notes, Asks, Names, files_of, replaced_by}
+use Rattle.cet.specs.Command.{Command, CheckRaw, Asm, Dis, Notes, Run, Link, Asks, Names, option_file, files_of, replaced_by}
 use Rattle.cet.specs.declared.refusal.Unfit.{Unfit as Reason}
 use Rattle.cet.specs.Unfit.{bad_line, IsUnfitFor}
-use Rattle.cet.specs.Steps.{Step, Read, Form, Replace, Passes, Reaches, ComesTo, step_of, IsUnfit}
-use Rattle.cet.specs.Answer.{IsReport, IsAnswer, AreThere, GainsOrFails, Leaves}
+use Rattle.cet.specs.Steps.{Step, Read, Schedule, Form, ItsNote, Join, Replace, Passes, forms_of, Reaches, ComesTo, step_of, IsUnfit}
+use Rattle.cet.specs.Answer.{IsReport, IsAnswer, AreThere, GainsOrFails, Leaves, LeavesWith}
 use Rattle.cet.specs.Refused.{Effects, HasCause, Tells, LeavesRefused, IsUnread, IsUnreplaced}
 use Rattle.cet.specs.Text.{file_line}
-use Rattle.cet.proofs.Reports.{asks_one}
+use Rattle.cet.proofs.Asked.{asks_one}
 
 -- a read that a command comes to is that of one of its files
 no_form_is_read : (P : Step → Type 0) (others replaced : List (List ℕ)) (name : List ℕ) → Reaches P (map Form others ++ map Replace replaced) (Read name) → ⊥
@@ -23,14 +23,39 @@ no_form_is_read P [] (first ∷ replaced) name (inr (passes, reach)) = no_form_i
 no_form_is_read P (other ∷ others) replaced name (inl same) = absurd cc
 no_form_is_read P (other ∷ others) replaced name (inr (passes, reach)) = no_form_is_read P others replaced name reach
 
-reads_named : (P : Step → Type 0) (names others replaced : List (List ℕ)) (name : List ℕ) → Reaches P (map Read names ++ (map Form others ++ map Replace replaced)) (Read name) → Contains names name
-reads_named P [] others replaced name reach = absurd (no_form_is_read P others replaced name reach)
-reads_named P (first ∷ names) others replaced name (inl same) = (0, omega arith, cc)
-reads_named P (first ∷ names) others replaced name (inr (passes, reach)) =
-    let (k, below, is) = reads_named P names others replaced name reach in (suc k, omega arith, is)
+no_run_form_is_read : (P : Step → Type 0) (schedule : Option (List ℕ)) (file name : List ℕ) → Reaches P ((map Schedule (option_file schedule) ++ Form file ∷ []) ++ []) (Read name) → ⊥
+no_run_form_is_read P None file name (inl same) = absurd cc
+no_run_form_is_read P None file name (inr (passes, reach)) = reach
+no_run_form_is_read P (Some schedule) file name (inl same) = absurd cc
+no_run_form_is_read P (Some schedule) file name (inr (passes, inl same)) = absurd cc
+no_run_form_is_read P (Some schedule) file name (inr (passes, inr (also, reach))) = reach
+
+no_link_form_is_read : (P : Step → Type 0) (forms notes : List (List ℕ)) (out name : List ℕ) → Reaches P ((map Form forms ++ (map ItsNote notes ++ Join ∷ [])) ++ Replace out ∷ []) (Read name) → ⊥
+no_link_form_is_read P [] [] out name (inl same) = absurd cc
+no_link_form_is_read P [] [] out name (inr (passes, inl same)) = absurd cc
+no_link_form_is_read P [] [] out name (inr (passes, inr (also, reach))) = reach
+no_link_form_is_read P [] (note ∷ notes) out name (inl same) = absurd cc
+no_link_form_is_read P [] (note ∷ notes) out name (inr (passes, reach)) = no_link_form_is_read P [] notes out name reach
+no_link_form_is_read P (form ∷ forms) notes out name (inl same) = absurd cc
+no_link_form_is_read P (form ∷ forms) notes out name (inr (passes, reach)) = no_link_form_is_read P forms notes out name reach
+
+no_later_is_read : (P : Step → Type 0) (command : Command) (name : List ℕ) → Reaches P (forms_of command ++ map Replace (replaced_by command)) (Read name) → ⊥
+no_later_is_read P (CheckRaw file) name reach = no_form_is_read P (file ∷ []) [] name reach
+no_later_is_read P (Asm out file) name reach = no_form_is_read P (file ∷ []) (out ∷ []) name reach
+no_later_is_read P (Dis file) name reach = no_form_is_read P (file ∷ []) [] name reach
+no_later_is_read P (Notes files) name reach = no_form_is_read P files [] name reach
+no_later_is_read P (Link out start files) name reach = no_link_form_is_read P files files out name reach
+no_later_is_read P (Run raw schedule input limit file) name reach = no_run_form_is_read P schedule file name reach
+
+reads_named : (P : Step → Type 0) (names : List (List ℕ)) (later : List Step) (name : List ℕ) → (Reaches P later (Read name) → ⊥) → Reaches P (map Read names ++ later) (Read name) → Contains names name
+reads_named P [] later name none reach = absurd (none reach)
+reads_named P (first ∷ names) later name none (inl same) = (0, omega arith, cc)
+reads_named P (first ∷ names) later name none (inr (passes, reach)) =
+    let (k, below, is) = reads_named P names later name none reach in (suc k, omega arith, is)
 
 read_is_named : (told : Option Contents) (command : Command) (name : List ℕ) → ComesTo told command (Read name) → Names command name
-read_is_named told command name comes = reads_named (Passes told command) (files_of command) (files_of command) (replaced_by command) name comes
+read_is_named told command name comes =
+    reads_named (Passes told command) (files_of command) (forms_of command ++ map Replace (replaced_by command)) name (no_later_is_read (Passes told command) command name) comes
 
 -- status 3 is told of a file that could not be read or replaced
 pub unread_told : (e : Effects) (now : Option Contents) (command : Command) (refusal : Refusal) (status : ℕ) (old new : Option (List ℕ)) (before after : ℕ) → HasCause e command refusal → LeavesRefused e.files now refusal → Tells refusal status old new before after → status ≡ 3
@@ -52,12 +77,25 @@ refused_stays old now (Unreplaced name line) status err_old err_new before after
 refused_stays old now NoMemory status err_old err_new before after left told other = left
 refused_stays old now Unwritten status err_old err_new before after left told other = left
 
+-- what is left with status 0
+pub leaves_done : (old now : Option Contents) (command : Command) (status : ℕ) → LeavesWith status old now command → status ≡ 0 → Leaves old now command
+leaves_done old now (CheckRaw file) status left zero = left
+leaves_done old now (Asm out file) status left zero = left
+leaves_done old now (Dis file) status left zero = left
+leaves_done old now (Notes files) status left zero = left
+leaves_done old now (Run raw schedule input limit file) status left zero = left
+leaves_done old now (Link out start files) status (inl left) zero = left.1
+leaves_done old now (Link out start files) status (inr left) zero = absurd (omega (arith, left.0))
+
 -- and with 1, which `asm` does not answer
-pub done_stays : (old now : Option Contents) (command : Command) (status : ℕ) (text : List ℕ) → Leaves old now command → IsReport old command status text → status ≢ 0 → now ≡ old
+pub done_stays : (old now : Option Contents) (command : Command) (status : ℕ) (text : List ℕ) → LeavesWith status old now command → IsReport old command status text → status ≢ 0 → now ≡ old
 done_stays old now (CheckRaw file) status text left is other = left
 done_stays old now (Asm out file) status text left (object, holds, zero, empty) other = absurd (other zero)
 done_stays old now (Dis file) status text left is other = left
 done_stays old now (Notes files) status text left is other = left
+done_stays old now (Run raw schedule input limit file) status text left is other = left
+done_stays old now (Link out start files) status text (inl left) is other = absurd (other left.0)
+done_stays old now (Link out start files) status text (inr left) is other = left.1
 
 -- files that stayed as they were are left so by every refusal
 others_stay : (old : Option Contents) (name : List ℕ) → OthersStay old old name

@@ -1,5 +1,5 @@
 -- What follows for the words and for the files from a report.
-use Rattle.std.proofs.Common.{◌≡◌, ℕ, List, [], ◌∷◌, get_or, codes, inl, Option, Some, None, Result, Ok, Err, IfOk, refl, sym, ap, subst, ◌∙◌, arith}
+use Rattle.std.proofs.Common.{◌≡◌, ℕ, List, [], inl, Option, Some, None, Result, Ok, Err, IfOk, refl, sym, ap, subst, arith}
 use Rattle.std.specs.Prelude.{IsSomeAnd}
 use Rattle.std.proofs.lemmas.List.{append-nil}
 use Rattle.cet_base.specs.Files.{Contents, FileMeets}
@@ -11,57 +11,9 @@ use Rattle.cet_rules.specs.declared.verdict.Verdict.TheVariants.{Accepted, Refus
 use Rattle.cet_rules.specs.First.{KeepsRules}
 use Rattle.cet_rules.specs.Report.{report}
 use Rattle.cet_small_machine.specs.Run.{NeverMissesEndBranch}
-use Rattle.cet.specs.Command.{Command, CheckRaw, Asm, Dis, Notes, Asks, AreRefused}
-use Rattle.cet.proofs.AsmWords.{asm_words, asm_asks_one}
+use Rattle.cet.specs.Command.{Command, CheckRaw, Asks}
+use Rattle.cet.proofs.Asked.{asks_one}
 use Rattle.cet.specs.Answer.{IsReport, IsRawVerdict, IsCertified, IsAnswer, status_of}
-
--- words have one verb: this is its first letter
-first_letter : (words others rest : List (List ℕ)) (verb other : List ℕ) → words ≡ verb ∷ others → words ≡ other ∷ rest → get_or verb 0 0 ≡ get_or other 0 0
-first_letter words others rest verb other first second = ap (λ (ws : List (List ℕ)). get_or (get_or ws 0 []) 0 0) (sym first ∙ second)
-
-check_or_notes : (words others rest : List (List ℕ)) → words ≡ codes "check" ∷ others → words ≡ codes "notes" ∷ rest → ⊥
-check_or_notes words others rest first second = let letters : ◌≡◌ {A = ℕ} 99 110 = first_letter words others rest _ _ first second in omega arith
-
-check_or_dis : (words others rest : List (List ℕ)) → words ≡ codes "check" ∷ others → words ≡ codes "dis" ∷ rest → ⊥
-check_or_dis words others rest first second = let letters : ◌≡◌ {A = ℕ} 99 100 = first_letter words others rest _ _ first second in omega arith
-
-dis_or_notes : (words others rest : List (List ℕ)) → words ≡ codes "dis" ∷ others → words ≡ codes "notes" ∷ rest → ⊥
-dis_or_notes words others rest first second = let letters : ◌≡◌ {A = ℕ} 100 110 = first_letter words others rest _ _ first second in omega arith
-
-asm_or_check : (words others rest : List (List ℕ)) → words ≡ codes "asm" ∷ others → words ≡ codes "check" ∷ rest → ⊥
-asm_or_check words others rest first second = let letters : ◌≡◌ {A = ℕ} 97 99 = first_letter words others rest _ _ first second in omega arith
-
-asm_or_dis : (words others rest : List (List ℕ)) → words ≡ codes "asm" ∷ others → words ≡ codes "dis" ∷ rest → ⊥
-asm_or_dis words others rest first second = let letters : ◌≡◌ {A = ℕ} 97 100 = first_letter words others rest _ _ first second in omega arith
-
-asm_or_notes : (words others rest : List (List ℕ)) → words ≡ codes "asm" ∷ others → words ≡ codes "notes" ∷ rest → ⊥
-asm_or_notes words others rest first second = let letters : ◌≡◌ {A = ℕ} 97 110 = first_letter words others rest _ _ first second in omega arith
-
--- words ask for one command at most
-pub asks_one : (words : List (List ℕ)) (c d : Command) → Asks words c → Asks words d → c ≡ d
-asks_one words (CheckRaw file) (CheckRaw other) first second = ap CheckRaw (cc (first.0, second.0))
-asks_one words (CheckRaw file) (Asm out other) first second = let w = asm_words words out other second in absurd (asm_or_check words _ _ w.are first.0)
-asks_one words (CheckRaw file) (Dis other) first second = absurd (check_or_dis words _ _ first.0 second.0)
-asks_one words (CheckRaw file) (Notes files) first second = absurd (check_or_notes words _ _ first.0 second.0)
-asks_one words (Asm out file) (CheckRaw other) first second = let w = asm_words words out file first in absurd (asm_or_check words _ _ w.are second.0)
-asks_one words (Asm out file) (Asm to from) first second = asm_asks_one words out file to from first second
-asks_one words (Asm out file) (Dis other) first second = let w = asm_words words out file first in absurd (asm_or_dis words _ _ w.are second.0)
-asks_one words (Asm out file) (Notes files) first second = let w = asm_words words out file first in absurd (asm_or_notes words _ _ w.are second.0)
-asks_one words (Dis file) (Asm out other) first second = let w = asm_words words out other second in absurd (asm_or_dis words _ _ w.are first.0)
-asks_one words (Dis file) (CheckRaw other) first second = absurd (check_or_dis words _ _ second.0 first.0)
-asks_one words (Dis file) (Dis other) first second = ap Dis (cc (first.0, second.0))
-asks_one words (Dis file) (Notes files) first second = absurd (dis_or_notes words _ _ first.0 second.0)
-asks_one words (Notes files) (CheckRaw file) first second = absurd (check_or_notes words _ _ second.0 first.0)
-asks_one words (Notes files) (Asm out file) first second = let w = asm_words words out file second in absurd (asm_or_notes words _ _ w.are first.0)
-asks_one words (Notes files) (Dis file) first second = absurd (dis_or_notes words _ _ second.0 first.0)
-asks_one words (Notes files) (Notes others) first second = ap Notes (cc (first.0, second.0))
-
--- words of none of the commands are refused
-pub no_command : (words : List (List ℕ)) → ((file : List ℕ) → ¬ Asks words (CheckRaw file)) → ((out file : List ℕ) → ¬ Asks words (Asm out file)) → ((file : List ℕ) → ¬ Asks words (Dis file)) → ((files : List (List ℕ)) → ¬ Asks words (Notes files)) → AreRefused words
-no_command words check asm dis notes (CheckRaw file) asks = check file asks
-no_command words check asm dis notes (Asm out file) asks = asm out file asks
-no_command words check asm dis notes (Dis file) asks = dis file asks
-no_command words check asm dis notes (Notes files) asks = notes files asks
 
 -- what is true of one content is true of the file that holds it
 pub meets_more : (files : Option Contents) (name : List ℕ) (P Q : List ℕ → Type 0) → ((b : List ℕ) → P b → Q b) → FileMeets files name P → FileMeets files name Q

@@ -1,14 +1,20 @@
 -- What the program's own refusals say: the cause of each, and the status and line that tell it.
-use Rattle.std.specs.Prelude.{◌≡◌, ℕ, List, [], Option, ◌⊎◌}
+use Rattle.std.specs.Prelude.{◌≡◌, ℕ, List, [], Bool, Option, Some, ◌⊎◌}
 use Rattle.cet_base.specs.Faults.{Rose}
 use Rattle.cet_base.specs.Files.{Contents, FileMeets, IsToldAbsent, OthersStay}
 use Rattle.cet_base.specs.Sink.{Gains, GainsPart}
 use Rattle.cet.specs.declared.refusal.Refusal.{Refusal}
 use Rattle.cet.specs.declared.refusal.Refusal.TheVariants.{Unread, Unfit, Unreplaced, NoMemory, Unwritten}
-use Rattle.cet.specs.Command.{Command}
+use Rattle.cet_elf.specs.declared.object.Object.{Object}
+use Rattle.cet_link.specs.declared.error.LinkError.{LinkError}
+use Rattle.cet_link.specs.declared.error.LinkError.TheVariants as errors
+use Rattle.cet_note.specs.declared.fault.NoteError.{NoteError}
+use Rattle.cet.specs.declared.refusal.Unfit.TheVariants.{NoInputNote}
+use Rattle.cet.specs.Links.{IsOfLink, word_at, fault_line}
+use Rattle.cet.specs.Command.{Command, Run}
 use Rattle.cet.specs.Text.{file_line}
 use Rattle.cet.specs.Unfit.{bad_line, IsUnfitFor}
-use Rattle.cet.specs.Steps.{Step, Read, Replace, ComesTo, step_of, IsUnfit}
+use Rattle.cet.specs.Steps.{Step, Read, Schedule, Replace, ComesTo, step_of, IsUnfit}
 use Rattle.cet.specs.Answer.{IsReport, GainsOrFails}
 
 -- what the files told, and their counts and the output before and after
@@ -29,6 +35,16 @@ IsAtStep files before after command step (Unreplaced name told) = (step ≡ Repl
 IsAtStep files before after command step NoMemory = Unit {0}
 IsAtStep files before after command step Unwritten = ⊥
 
+-- the refusal has its cause at the read of the file of an option
+abbrev pub IsAtOption : Option Contents → ℕ → ℕ → Option (List ℕ) → Refusal → Type 0
+IsAtOption files before after option refusal =
+    (command : Command) → (name : List ℕ) × (option ≡ Some name) × IsAtStep files before after command (Read name) refusal
+
+-- the refusal has its cause in the schedule of a run
+abbrev pub IsAtSchedule : Option Contents → ℕ → ℕ → Option (List ℕ) → Refusal → Type 0
+IsAtSchedule files before after schedule refusal = (raw : Bool) (input : Option (List ℕ)) (limit : ℕ) (file : List ℕ)
+    → (name : List ℕ) × (schedule ≡ Some name) × IsAtStep files before after (Run raw schedule input limit file) (Schedule name) refusal
+
 -- the refusal has its cause at a step that the command comes to
 abbrev pub IsOfFiles : Option Contents → ℕ → ℕ → Command → Refusal → Type 0
 IsOfFiles files before after command (Unread name) = ComesTo files command (Read name.now) × (Rose before after ⊎ IsToldAbsent files name.now)
@@ -41,6 +57,17 @@ IsOfFiles files before after command Unwritten = ⊥
 abbrev pub HasCause : Effects → Command → Refusal → Type 0
 HasCause e command Unwritten = Rose e.out_faults_before e.out_faults_after × ((status : ℕ) × (text : List ℕ) × GainsPart e.out_before e.out_after text × IsReport e.files command status text)
 HasCause e command refusal = Gains e.out_before e.out_after [] × IsOfFiles e.files e.faults_before e.faults_after command refusal
+
+-- a fault of a link is not told as a line: it is that of the note of a file, or there was no memory for the line
+abbrev pub IsNoLine : List (List ℕ) → LinkError → Refusal → Type 0
+IsNoLine names fault (Unfit name why) = (input : ℕ) × (error : NoteError) × (fault ≡ errors.Note input error) × (name.now ≡ word_at names input) × (why ≡ NoInputNote error)
+IsNoLine names fault NoMemory = Unit {0}
+IsNoLine names fault refusal = ⊥
+
+-- nor is it told on the output, which may have failed
+abbrev pub IsUntold : Option (List ℕ) → Option (List ℕ) → ℕ → ℕ → List ℕ → List (List ℕ) → List Object → LinkError → Refusal → Type 0
+IsUntold old new before after start names objects fault Unwritten = Rose before after × GainsPart old new (fault_line start names objects fault) × IsOfLink fault
+IsUntold old new before after start names objects fault refusal = Gains old new [] × IsNoLine names fault refusal
 
 -- a file of this name could not be read when its step came: it is absent, or the count of faults rose
 abbrev pub IsUnread : Option Contents → Option Contents → ℕ → ℕ → Command → List ℕ → Type 0

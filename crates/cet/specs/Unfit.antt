@@ -1,5 +1,5 @@
 -- Why a file is unfit for a command, and the line that says so.
-use Rattle.std.specs.Prelude.{◌≡◌, ℕ, ◌<◌, List, [], ◌++◌, length, Some, Err, codes}
+use Rattle.std.specs.Prelude.{◌≡◌, ℕ, ◌<◌, List, [], ◌++◌, length, false, IsTrue, Some, Err, codes}
 use Rattle.std.specs.Fmt.{decimal}
 use Rattle.cet_base.specs.declared.reading.TheConstants.{FILE_LIMIT}
 use Rattle.cet_base.specs.Text.{line, hexadecimal}
@@ -7,19 +7,34 @@ use Rattle.cet_isa.specs.declared.decode_error.DecodeError.{DecodeError}
 use Rattle.cet_isa.specs.declared.decode_error.DecodeError.TheVariants.{Short, Outside}
 use Rattle.cet_elf.specs.declared.error.ElfError.{ElfError}
 use Rattle.cet_elf.specs.declared.error.ElfError.TheVariants as elf
-use Rattle.cet_elf.specs.ObjectFile.{object_fault}
+use Rattle.cet_elf.specs.declared.exec.Exec.{Exec}
+use Rattle.cet_elf.specs.declared.object.Object.{Object}
+use Rattle.cet_elf.specs.ObjectFile.{object_fault, IsObjectFile}
+use Rattle.cet_exec.specs.ExecFile.{exec_fault, IsExecFile}
+use Rattle.cet_image.specs.declared.error.ImageError.{ImageError}
+use Rattle.cet_image.specs.declared.error.ImageError.TheVariants as images
+use Rattle.cet_image.specs.ImageOf.{IsImageError}
+use Rattle.cet_link.specs.Notes.{reading}
 use Rattle.cet_asm.specs.declared.error.AsmKind.{AsmKind}
 use Rattle.cet_asm.specs.declared.error.AsmKind.TheVariants as asm
 use Rattle.cet_asm.specs.Assembled.{IsAsmFault}
+use Rattle.cet_process.specs.declared.load_error.LoadError.{LoadError}
+use Rattle.cet_process.specs.declared.load_error.LoadError.TheVariants as loads
+use Rattle.cet_process.specs.Start.{load_error}
+use Rattle.cet_rules.specs.declared.image.Image.{Image}
 use Rattle.cet_rules.specs.Raw.{raw_start}
 use Rattle.cet_listing.specs.Listing.{StopsAt}
+use Rattle.cet_schedule.specs.declared.error.ScheduleError.{ScheduleError}
+use Rattle.cet_schedule.specs.declared.error.ScheduleError.TheVariants as schedules
+use Rattle.cet_schedule.specs.Schedule.{schedule as events_of}
 use Rattle.cet_note.specs.declared.fault.NoteError.{NoteError}
 use Rattle.cet_note.specs.declared.fault.NoteError.TheVariants as faults
 use Rattle.cet_note.specs.Fault.{note_in}
 use Rattle.cet.specs.declared.refusal.Unfit.{Unfit}
-use Rattle.cet.specs.declared.refusal.Unfit.TheVariants.{Empty, TooLarge, NoObject, NoNote, NoForm, NoAssembly}
-use Rattle.cet.specs.Command.{Command, CheckRaw, Asm, Dis, Notes}
+use Rattle.cet.specs.declared.refusal.Unfit.TheVariants.{Empty, TooLarge, NoObject, NoNote, NoForm, NoAssembly, NoSchedule, NoExec, NoImage, NoLoad, NoInputNote}
+use Rattle.cet.specs.Command.{Command, CheckRaw, Asm, Dis, Notes, Run, Link}
 use Rattle.cet.specs.Notes.{BeginsElf, HasNoteBytes}
+use Rattle.cet.specs.Runs.{IsProgram}
 
 -- the word for the fault of a note
 abbrev pub fault_word : NoteError → List ℕ
@@ -41,7 +56,7 @@ fault_place (faults.Order at) = at
 fault_place (faults.Twice at) = at
 fault_place faults.NoMemory = 0
 
--- the word for the fault of an object
+-- the word for the fault of an object or an executable
 abbrev pub elf_word : ElfError → List ℕ
 elf_word (elf.Magic at) = codes "magic"
 elf_word (elf.Class at) = codes "class"
@@ -84,21 +99,71 @@ asm_word asm.Twice = codes "twice"
 asm_word asm.TooMany = codes "toomany"
 asm_word asm.NoMemory = codes "nomemory"
 
+-- the word for what is wrong with a schedule
+abbrev pub schedule_word : ScheduleError → List ℕ
+schedule_word (schedules.Line line) = codes "line"
+schedule_word (schedules.TooMany line) = codes "toomany"
+schedule_word schedules.NoMemory = codes "nomemory"
+
+-- the line that has it
+abbrev pub schedule_line : ScheduleError → ℕ
+schedule_line (schedules.Line line) = line
+schedule_line (schedules.TooMany line) = line
+schedule_line schedules.NoMemory = 0
+
+-- the word for why an executable is no image
+abbrev pub image_word : ImageError → List ℕ
+image_word images.Empty = codes "empty"
+image_word (images.Note error) = fault_word error
+image_word images.TooMany = codes "toomany"
+image_word (images.Range at) = codes "range"
+image_word (images.Overlap a b) = codes "overlap"
+image_word images.NoMemory = codes "nomemory"
+
+-- where: at the offset of a field in the note, or at the start of the segment or function that has it, the first one of two
+abbrev pub image_place : ImageError → List ℕ
+image_place (images.Note error) = decimal (fault_place error)
+image_place (images.Range at) = hexadecimal at
+image_place (images.Overlap a b) = hexadecimal a
+image_place error = codes "0"
+
+-- the word for why a program is not loaded
+abbrev pub load_word : LoadError → List ℕ
+load_word (loads.Place at) = codes "place"
+load_word (loads.Shared a b) = codes "shared"
+load_word loads.NoMemory = codes "nomemory"
+
+-- the start of the segment that is out of place, or of the first that shares a page
+abbrev pub load_place : LoadError → ℕ
+load_place (loads.Place at) = at
+load_place (loads.Shared a b) = a
+load_place loads.NoMemory = 0
+
 abbrev pub reason : Unfit → List ℕ
 reason Empty = codes "empty"
 reason TooLarge = codes "toolarge"
 reason (NoObject fault) = elf_word fault
 reason (NoNote fault) = fault_word fault
+reason (NoInputNote fault) = fault_word fault
 reason (NoForm at why) = no_form_word why
 reason (NoAssembly fault) = asm_word fault.kind
+reason (NoSchedule fault) = schedule_word fault
+reason (NoExec fault) = elf_word fault
+reason (NoImage error) = image_word error
+reason (NoLoad fault) = load_word fault
 
 -- where: at the start of the file, at the offset of a field in it, at that of a field in its note, at the address of the bytes that are no
--- form, or on a line
+-- form, of a segment or of a function, or on a line
 abbrev pub place : Unfit → List ℕ
 place (NoObject fault) = decimal (elf_place fault)
 place (NoNote fault) = decimal (fault_place fault)
+place (NoInputNote fault) = decimal (fault_place fault)
 place (NoForm at why) = hexadecimal at
 place (NoAssembly fault) = decimal fault.line
+place (NoSchedule fault) = decimal (schedule_line fault)
+place (NoExec fault) = decimal (elf_place fault)
+place (NoImage error) = image_place error
+place (NoLoad fault) = hexadecimal (load_place fault)
 place why = codes "0"
 
 -- the file of this name is not of its form, or passes a limit
@@ -114,4 +179,11 @@ IsUnfitFor (Dis file) Empty held = held ≡ []
 IsUnfitFor (Dis file) (NoForm at why) held = StopsAt raw_start held at why
 IsUnfitFor (Notes files) (NoObject fault) held = BeginsElf held × (object_fault held ≡ Some fault)
 IsUnfitFor (Notes files) (NoNote fault) held = (part : List ℕ) × HasNoteBytes held part × (note_in part ≡ Err fault)
+IsUnfitFor (Run raw schedule input limit file) Empty held = IsTrue raw × (held ≡ [])
+IsUnfitFor (Run raw schedule input limit file) (NoSchedule fault) held = events_of held ≡ Err fault
+IsUnfitFor (Run raw schedule input limit file) (NoExec fault) held = (raw ≡ false) × (exec_fault held ≡ Some fault)
+IsUnfitFor (Run raw schedule input limit file) (NoImage error) held = (raw ≡ false) × ((exec : Exec) × IsExecFile held exec × IsImageError exec error)
+IsUnfitFor (Run raw schedule input limit file) (NoLoad fault) held = (image : Image) × IsProgram raw held image × (load_error image ≡ Some fault)
+IsUnfitFor (Link out start files) (NoObject fault) held = object_fault held ≡ Some fault
+IsUnfitFor (Link out start files) (NoInputNote fault) held = (object : Object) × IsObjectFile held object × (reading object ≡ Err fault)
 IsUnfitFor command why held = ⊥

@@ -1,20 +1,28 @@
 //! The command that the words ask for.
 
-ghost use Rattle.std.specs.Prelude.{◌≡◌, ◌↔◌, ℕ, List, All, IsTrue, IfSome, IfNone, IfOk, IfErr};
+ghost use Rattle.std.specs.Prelude.{◌≡◌, ◌<◌, ◌^◌, ℕ, List, Some, slice_get, length, codes, IfOk, IfErr};
 ghost use Rattle.cet_base.specs.Sink.{Gains};
-ghost use Rattle.cet.specs.Command.{CheckRaw, Asm, Dis, Notes, Asks, AreRefused, NameOut, AreOut, IsFileName, AreFileNames, texts};
-ghost use Rattle.cet.specs.Answer.{IsReport, Leaves};
+ghost use Rattle.cet.specs.Command.{Asks, AreRefused, texts};
+ghost use Rattle.cet.specs.Named.{named};
+ghost use Rattle.cet.specs.Answer.{IsReport, LeavesWith};
 ghost use Rattle.cet.specs.Refused.{HasCause, LeavesRefused};
 
 use crate::asm::asm;
 use crate::check_raw::check_raw;
 use crate::dis::dis;
+use crate::found::{NoCommand, find, is_given, number, value, values};
+use crate::link::{LinkRequest, link};
 use crate::notes::notes;
 use crate::refusal::Refusal;
+use crate::run::{RunRequest, run};
+use crate::words::{
+    asm_command, check_command, dis_command, link_command, notes_command, run_command,
+};
 use cet_base::{Files, Sink};
 use std::alloc::Global;
 
 /// A command, with the words that name its files.
+#[derive(Drop)]
 pub enum Command<'a> {
     /// `check --raw FILE`.
     CheckRaw(&'a str),
@@ -23,142 +31,137 @@ pub enum Command<'a> {
     /// `dis FILE`.
     Dis(&'a str),
     /// `notes FILE...`.
-    Notes(&'a [String]),
+    Notes(Vec<&'a str>),
+    /// `run`, with its options and its file.
+    Run(RunRequest<'a>),
+    /// `link`, with its options and its files.
+    Link(LinkRequest<'a>),
 }
 
-fn is_file_name(word: &str) -> bool
-    ensures { IsTrue result ↔ IsFileName word.now }
-{
-    !matches!(word.as_bytes(), [b'-', ..])
-}
+/// The most words that are read, with the verb.
+const MOST_WORDS: usize = 0xffff_ffff;
 
-// Whether each of the words names a file.
-fn each_names_a_file(words: &[String]) -> bool
-    ensures { IsTrue result ↔ All IsFileName (texts words.now) }
+// `check --raw FILE`.
+#[tactic(auto, using(crate::proofs::Asked::none_but_check))]
+fn read_check<'a>(alloc: Global, words: &'a [String]) -> Result<Command<'a>, NoCommand>
+    requires few { length words.now < 2 ^ 32 }
+    requires verb { slice_get (texts words.now) 0 ≡ Some (codes "check") }
+    ensures found { IfOk result (λ command. Asks (texts words.now) (named command)) }
+    ensures refused { IfErr result (λ why. why ≡ NoCommand.Refused → AreRefused (texts words.now)) }
 {
-    for word in words {
-        if !is_file_name(word.as_str()) {
-            return false;
-        }
-    }
-    true
-}
-
-// Whether these are the words of `FILE...`.
-fn are_file_names(words: &[String]) -> bool
-    ensures { IsTrue result ↔ AreFileNames (texts words.now) }
-{
-    // With the verb there are fewer than 2^32.
-    !words.is_empty() && words.len() < 0xffff_ffff && each_names_a_file(words)
-}
-
-// The file of `check --raw FILE`.
-fn check_raw_file(words: &[String]) -> Option<&str>
-    ensures found { IfSome result (λ file. Asks (texts words.now) (CheckRaw file.now)) }
-    ensures none { IfNone result ((file : List ℕ) → ¬ Asks (texts words.now) (CheckRaw file)) }
-{
-    match words {
-        [verb, option, file]
-            if verb.as_str() == "check"
-                && option.as_str() == "--raw"
-                && is_file_name(file.as_str()) => Some(file.as_str()),
-        _ => None,
+    let found = find(check_command(alloc)?, words)?;
+    match value(&found, "file") {
+        Some(file) if is_given(&found, "raw") => Ok(Command::CheckRaw(file)),
+        _ => Err(NoCommand::Refused),
     }
 }
 
-// What `--out WORD` or `--out=WORD` names.
-fn out_word(words: &[String]) -> Option<&str>
-    ensures found { IfSome result (λ out. NameOut (texts words.now) out.now) }
-    ensures none { IfNone result ((out : List ℕ) → ¬ NameOut (texts words.now) out) }
+// `asm --out FILE FILE`.
+#[tactic(auto, using(crate::proofs::Asked::none_but_asm))]
+fn read_asm<'a>(alloc: Global, words: &'a [String]) -> Result<Command<'a>, NoCommand>
+    requires few { length words.now < 2 ^ 32 }
+    requires verb { slice_get (texts words.now) 0 ≡ Some (codes "asm") }
+    ensures found { IfOk result (λ command. Asks (texts words.now) (named command)) }
+    ensures refused { IfErr result (λ why. why ≡ NoCommand.Refused → AreRefused (texts words.now)) }
 {
-    match words {
-        [option, out] if option.as_str() == "--out" => Some(out.as_str()),
-        [option] => option.as_str().strip_prefix("--out="),
-        _ => None,
+    let found = find(asm_command(alloc)?, words)?;
+    match (value(&found, "out"), value(&found, "file")) {
+        (Some(out), Some(file)) => Ok(Command::Asm(out, file)),
+        _ => Err(NoCommand::Refused),
     }
 }
 
-#[tactic(auto, using(crate::proofs::AsmWords::one_out))]
-// The file of `--out FILE` or `--out=FILE`.
-fn out_file(words: &[String]) -> Option<&str>
-    ensures found { IfSome result (λ out. AreOut (texts words.now) out.now) }
-    ensures none { IfNone result ((out : List ℕ) → ¬ AreOut (texts words.now) out) }
+// `dis FILE`.
+#[tactic(auto, using(crate::proofs::Asked::none_but_dis))]
+fn read_dis<'a>(alloc: Global, words: &'a [String]) -> Result<Command<'a>, NoCommand>
+    requires few { length words.now < 2 ^ 32 }
+    requires verb { slice_get (texts words.now) 0 ≡ Some (codes "dis") }
+    ensures found { IfOk result (λ command. Asks (texts words.now) (named command)) }
+    ensures refused { IfErr result (λ why. why ≡ NoCommand.Refused → AreRefused (texts words.now)) }
 {
-    let out = out_word(words)?;
-    if is_file_name(out) { Some(out) } else { None }
+    let found = find(dis_command(alloc)?, words)?;
+    match value(&found, "file") {
+        Some(file) => Ok(Command::Dis(file)),
+        None => Err(NoCommand::Refused),
+    }
 }
 
-// The files of `asm --out FILE FILE`, where the option may stand behind as well.
-fn asm_files(words: &[String]) -> Option<(&str, &str)>
-    ensures found { IfSome result (λ files. Asks (texts words.now) (Asm files.0.now files.1.now)) }
-    ensures none { IfNone result ((out file : List ℕ) → ¬ Asks (texts words.now) (Asm out file)) }
+// `notes FILE...`.
+#[tactic(auto, using(crate::proofs::Asked::none_but_notes))]
+fn read_notes<'a>(alloc: Global, words: &'a [String]) -> Result<Command<'a>, NoCommand>
+    requires few { length words.now < 2 ^ 32 }
+    requires verb { slice_get (texts words.now) 0 ≡ Some (codes "notes") }
+    ensures found { IfOk result (λ command. Asks (texts words.now) (named command)) }
+    ensures refused { IfErr result (λ why. why ≡ NoCommand.Refused → AreRefused (texts words.now)) }
 {
-    let [verb, words @ ..] = words else {
-        return None;
+    let found = find(notes_command(alloc)?, words)?;
+    Ok(Command::Notes(values(alloc, &found, "files")?))
+}
+
+// `run [--raw] [--schedule FILE] [--input FILE] [--limit N] FILE`.
+#[tactic(auto, using(crate::proofs::Asked::none_but_run))]
+fn read_run<'a>(alloc: Global, words: &'a [String]) -> Result<Command<'a>, NoCommand>
+    requires few { length words.now < 2 ^ 32 }
+    requires verb { slice_get (texts words.now) 0 ≡ Some (codes "run") }
+    ensures found { IfOk result (λ command. Asks (texts words.now) (named command)) }
+    ensures refused { IfErr result (λ why. why ≡ NoCommand.Refused → AreRefused (texts words.now)) }
+{
+    let found = find(run_command(alloc)?, words)?;
+    let Some(file) = value(&found, "file") else {
+        return Err(NoCommand::Refused);
     };
-    if verb.as_str() != "asm" {
-        return None;
-    }
-    match words {
-        [file, option @ ..] if is_file_name(file.as_str()) => {
-            Some((out_file(option)?, file.as_str()))
-        }
-        [option @ .., file] if is_file_name(file.as_str()) => {
-            Some((out_file(option)?, file.as_str()))
-        }
-        _ => None,
-    }
-}
-
-// The file of `dis FILE`.
-fn dis_file(words: &[String]) -> Option<&str>
-    ensures found { IfSome result (λ file. Asks (texts words.now) (Dis file.now)) }
-    ensures none { IfNone result ((file : List ℕ) → ¬ Asks (texts words.now) (Dis file)) }
-{
-    match words {
-        [verb, file] if verb.as_str() == "dis" && is_file_name(file.as_str()) => Some(
-            file.as_str(),
-        ),
-        _ => None,
-    }
-}
-
-// The files of `notes FILE...`.
-fn notes_files(words: &[String]) -> Option<&[String]>
-    ensures found { IfSome result (λ files. Asks (texts words.now) (Notes (texts files.now))) }
-    ensures none { IfNone result ((files : List (List ℕ)) → ¬ Asks (texts words.now) (Notes files)) }
-{
-    let [verb, files @ ..] = words else {
-        return None;
+    let Some(limit) = number(&found, "limit") else {
+        return Err(NoCommand::Refused);
     };
-    if verb.as_str() == "notes" && are_file_names(files) {
-        Some(files)
-    } else {
-        None
+    Ok(Command::Run(RunRequest {
+        raw: is_given(&found, "raw"),
+        schedule: value(&found, "schedule"),
+        input: value(&found, "input"),
+        limit,
+        file,
+    }))
+}
+
+// `link --out FILE [--entry NAME] FILE...`.
+#[tactic(auto, using(crate::proofs::Asked::none_but_link))]
+fn read_link<'a>(alloc: Global, words: &'a [String]) -> Result<Command<'a>, NoCommand>
+    requires few { length words.now < 2 ^ 32 }
+    requires verb { slice_get (texts words.now) 0 ≡ Some (codes "link") }
+    ensures found { IfOk result (λ command. Asks (texts words.now) (named command)) }
+    ensures refused { IfErr result (λ why. why ≡ NoCommand.Refused → AreRefused (texts words.now)) }
+{
+    let found = find(link_command(alloc)?, words)?;
+    match (value(&found, "out"), value(&found, "entry")) {
+        (Some(to), Some(start)) => Ok(Command::Link(LinkRequest {
+            to,
+            start,
+            files: values(alloc, &found, "files")?,
+        })),
+        _ => Err(NoCommand::Refused),
     }
 }
 
 impl<'a> Command<'a> {
-    ghost use Rattle.cet.specs.Named.{named};
-
-    #[tactic(auto, using(crate::proofs::Reports::no_command))]
-    /// The command of these words, the verb first. None exactly where they are no command.
-    pub fn read(words: &'a [String]) -> Option<Command<'a>>
-        ensures found { IfSome result (λ command. Asks (texts words.now) (named command)) }
-        ensures refused { IfNone result (AreRefused (texts words.now)) }
+    /// The command of these words, the verb first.
+    #[tactic(auto, using(crate::proofs::Asked::no_words, crate::proofs::Asked::no_verb, crate::proofs::Asked::too_many))]
+    pub fn read(alloc: Global, words: &'a [String]) -> Result<Command<'a>, NoCommand>
+        ensures found { IfOk result (λ command. Asks (texts words.now) (named command)) }
+        ensures refused { IfErr result (λ why. why ≡ NoCommand.Refused → AreRefused (texts words.now)) }
     {
-        if let Some(file) = check_raw_file(words) {
-            return Some(Command::CheckRaw(file));
+        let Some(verb) = words.first() else {
+            return Err(NoCommand::Refused);
+        };
+        if words.len() > MOST_WORDS {
+            return Err(NoCommand::Refused);
         }
-        if let Some((out, file)) = asm_files(words) {
-            return Some(Command::Asm(out, file));
-        }
-        if let Some(file) = dis_file(words) {
-            return Some(Command::Dis(file));
-        }
-        match notes_files(words) {
-            Some(files) => Some(Command::Notes(files)),
-            None => None,
+        match verb.as_str() {
+            "check" => read_check(alloc, words),
+            "asm" => read_asm(alloc, words),
+            "dis" => read_dis(alloc, words),
+            "notes" => read_notes(alloc, words),
+            "run" => read_run(alloc, words),
+            "link" => read_link(alloc, words),
+            _ => Err(NoCommand::Refused),
         }
     }
 
@@ -169,7 +172,7 @@ impl<'a> Command<'a> {
         files: &mut F,
         out: &mut O,
     ) -> Result<u8, Refusal<'a>>
-        ensures left { IfOk result (λ status. Leaves (F.contents files.old) (F.contents files.new) (named self.entry)) }
+        ensures left { IfOk result (λ status. LeavesWith status (F.contents files.old) (F.contents files.new) (named self.entry)) }
         ensures left_refused { IfErr result (LeavesRefused (F.contents files.old) (F.contents files.new)) }
         ensures reported { IfOk result (λ status. (text : List ℕ) × Gains (O.bytes out.old) (O.bytes out.new) text
             × IsReport (F.contents files.old) (named self.entry) status text) }
@@ -187,7 +190,9 @@ impl<'a> Command<'a> {
             Command::CheckRaw(file) => check_raw(alloc, file, files, out),
             Command::Asm(to, file) => asm(alloc, to, file, files),
             Command::Dis(file) => dis(alloc, file, files, out),
-            Command::Notes(names) => notes(alloc, names, files, out),
+            Command::Notes(names) => notes(alloc, &names, files, out),
+            Command::Run(request) => run(alloc, request, files, out),
+            Command::Link(request) => link(alloc, request, files, out),
         }
     }
 }

@@ -1,5 +1,5 @@
 //! The program `cet`: `asm` makes an object of an assembly text, `check --raw` certifies a file of raw code, `dis` lists one, `notes` prints and
-//! merges property notes.
+//! merges property notes, `link` makes an executable of objects, `run` runs raw code or an executable.
 //! `top` does all that the program does; its contract is by the definitions `Command`, `Text` and `Answer` of `specs/`.
 //! `main` hands it the real files and outputs.
 #![tactic(auto)]
@@ -8,13 +8,17 @@ mod asm;
 mod check_raw;
 mod command;
 mod dis;
+mod found;
+mod link;
 mod notes;
 mod notes_text;
 mod reading;
 mod real;
 mod refusal;
+mod run;
 mod status;
 mod top;
+mod words;
 
 use real::{RealFiles, RealSink};
 use std::process::ExitCode;

@@ -1,10 +1,9 @@
 //! `notes FILE...`: the property notes of files, and their merge.
 
-ghost use Rattle.std.specs.Prelude.{◌≡◌, ◌≢◌, ◌≤◌, ℕ, List, [], Option, unwrap_or, length, map, Vec, IfOk, IfErr};
-ghost use Rattle.cet_base.specs.Faults.{Rose};
+ghost use Rattle.std.specs.Prelude.{◌≡◌, ◌≢◌, ℕ, List, [], Option, unwrap_or, length, Vec, IfOk, IfErr};
 ghost use Rattle.cet_base.specs.Files.{Contents, FileMeets};
 ghost use Rattle.cet_base.specs.Sink.{Gains};
-ghost use Rattle.cet.specs.Command.{Notes, texts};
+ghost use Rattle.cet.specs.Command.{Notes, names_of};
 ghost use Rattle.cet.specs.Held.{HoldsBytes};
 ghost use Rattle.cet_elf.specs.ObjectFile.{IsObjectFile};
 ghost use Rattle.cet_note.specs.Form.{IsForm};
@@ -16,34 +15,13 @@ ghost use Rattle.cet.specs.Answer.{IsReport};
 ghost use Rattle.cet.specs.Refused.{HasCause, IsAtStep, IsOfFiles};
 
 use crate::notes_text::notes_report;
-use crate::reading::read_file;
+use crate::reading::read_files;
 use crate::refusal::{Refusal, Unfit};
 use crate::status;
 use cet_base::{Files, Sink, write_all};
 use cet_elf::{ElfError, Object, read_object};
 use cet_note::{NoteError, Props, merge, read_note};
 use std::alloc::Global;
-
-// The bytes of each file, in the order of the names.
-fn read_files<'a, F: Files>(
-    alloc: Global,
-    names: &'a [String],
-    files: &mut F,
-) -> Result<Vec<Vec<u8>>, Refusal<'a>>
-    ensures contents { F.contents files.new ≡ F.contents files.old }
-    ensures faults { F.faults files.old ≤ F.faults files.new }
-    ensures held { IfOk result (λ held. AllBoth (HoldsBytes (F.contents files.old)) (texts names.now) (items_of held.items)) }
-    ensures refused { IfErr result (IsOfFiles (F.contents files.old) (F.faults files.old) (F.faults files.new) (Notes (texts names.now))) }
-{
-    let mut held = Vec::new(alloc);
-    for name in names {
-        let bytes = read_file(alloc, name.as_str(), files)?;
-        if held.push(bytes).is_err() {
-            return Err(Refusal::NoMemory);
-        }
-    }
-    Ok(held)
-}
 
 // The refusal of the file `name` for the fault of the note that it has.
 fn no_note(name: &str, fault: NoteError) -> Refusal<'_>
@@ -122,17 +100,17 @@ fn read_form<'a>(alloc: Global, name: &'a str, bytes: &[u8]) -> Result<Props, Re
 // The note of each file, from the bytes that it holds.
 fn read_forms<'a>(
     alloc: Global,
-    names: &'a [String],
+    names: &[&'a str],
     held: &[Vec<u8>],
 ) -> Result<Vec<Props>, Refusal<'a>>
     requires { length names.now ≡ length held.now }
     ensures notes { IfOk result (λ notes. AllBoth IsFileNote (items_of held.now) notes.items) }
     ensures refused { IfErr result (λ refusal. (told : Option Contents) (before after : ℕ)
-        → AllBoth (HoldsBytes told) (texts names.now) (items_of held.now) → IsOfFiles told before after (Notes (texts names.now)) refusal) }
+        → AllBoth (HoldsBytes told) (names_of names.now) (items_of held.now) → IsOfFiles told before after (Notes (names_of names.now)) refusal) }
 {
     let mut notes = Vec::new(alloc);
     for (i, name) in names.iter().enumerate() {
-        let note = read_form(alloc, name.as_str(), &held[i])?;
+        let note = read_form(alloc, *name, &held[i])?;
         if notes.push(note).is_err() {
             return Err(Refusal::NoMemory);
         }
@@ -143,12 +121,12 @@ fn read_forms<'a>(
 // The whole report.
 fn report<'a, F: Files>(
     alloc: Global,
-    names: &'a [String],
+    names: &[&'a str],
     files: &mut F,
 ) -> Result<Vec<u8>, Refusal<'a>>
     ensures contents { F.contents files.new ≡ F.contents files.old }
-    ensures reported { IfOk result (λ text. IsReport (F.contents files.old) (Notes (texts names.now)) 0 text.items) }
-    ensures refused { IfErr result (IsOfFiles (F.contents files.old) (F.faults files.old) (F.faults files.new) (Notes (texts names.now))) }
+    ensures reported { IfOk result (λ text. IsReport (F.contents files.old) (Notes (names_of names.now)) 0 text.items) }
+    ensures refused { IfErr result (IsOfFiles (F.contents files.old) (F.faults files.old) (F.faults files.new) (Notes (names_of names.now))) }
 {
     let held = read_files(alloc, names, files)?;
     let notes = read_forms(alloc, names, &held)?;
@@ -164,13 +142,13 @@ fn report<'a, F: Files>(
 /// Reads the files, and writes the note of each and their merge to the output.
 pub fn notes<'a, F: Files, O: Sink>(
     alloc: Global,
-    names: &'a [String],
+    names: &[&'a str],
     files: &mut F,
     out: &mut O,
 ) -> Result<u8, Refusal<'a>>
     ensures contents { F.contents files.new ≡ F.contents files.old }
     ensures reported { IfOk result (λ status. (text : List ℕ) × Gains (O.bytes out.old) (O.bytes out.new) text
-        × IsReport (F.contents files.old) (Notes (texts names.now)) status text) }
+        × IsReport (F.contents files.old) (Notes (names_of names.now)) status text) }
     ensures refused { IfErr result (HasCause (record {
       files = F.contents files.old;
       faults_before = F.faults files.old;
@@ -179,7 +157,7 @@ pub fn notes<'a, F: Files, O: Sink>(
       out_after = O.bytes out.new;
       out_faults_before = O.faults out.old;
       out_faults_after = O.faults out.new;
-    }) (Notes (texts names.now))) }
+    }) (Notes (names_of names.now))) }
 {
     let text = report(alloc, names, files)?;
     if write_all(out, &text).is_err() {

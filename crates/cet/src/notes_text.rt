@@ -2,7 +2,7 @@
 
 ghost use Rattle.std.specs.Prelude.{◌≡◌, ◌++◌, length, codes, IfOk, OnOk};
 ghost use Rattle.std.specs.List.{flat_map};
-ghost use Rattle.cet.specs.Command.{texts};
+ghost use Rattle.cet.specs.Command.{names_of};
 ghost use Rattle.cet.specs.Notes.{word_text, property_text, note_text, note_line, note_lines, notes_text};
 
 use byteorder::{BigEndian, ByteOrder};
@@ -60,12 +60,12 @@ fn put_line(text: &mut Vec<u8>, name: &str, note: &Props) -> Result<(), NoMemory
 }
 
 // Adds the line of each note.
-fn put_lines(text: &mut Vec<u8>, names: &[String], notes: &[Props]) -> Result<(), NoMemory>
+fn put_lines(text: &mut Vec<u8>, names: &[&str], notes: &[Props]) -> Result<(), NoMemory>
     requires { length names.now ≡ length notes.now }
-    ensures { OnOk result (text.new.items ≡ text.old.items ++ note_lines (texts names.now) notes.now) }
+    ensures { OnOk result (text.new.items ≡ text.old.items ++ note_lines (names_of names.now) notes.now) }
 {
     for (i, name) in names.iter().enumerate() {
-        put_line(text, name.as_str(), &notes[i])?;
+        put_line(text, *name, &notes[i])?;
     }
     Ok(())
 }
@@ -73,12 +73,12 @@ fn put_lines(text: &mut Vec<u8>, names: &[String], notes: &[Props]) -> Result<()
 /// A line for each file with its note, and the line of their merge. There is a note for each file.
 pub fn notes_report(
     alloc: Global,
-    names: &[String],
+    names: &[&str],
     notes: &[Props],
     merged: &Props,
 ) -> Result<Vec<u8>, NoMemory>
     requires { length names.now ≡ length notes.now }
-    ensures { IfOk result (λ text. text.items ≡ notes_text (texts names.now) notes.now merged.now) }
+    ensures { IfOk result (λ text. text.items ≡ notes_text (names_of names.now) notes.now merged.now) }
 {
     let mut text = Vec::new(alloc);
     put_lines(&mut text, names, notes)?;

@@ -6,6 +6,7 @@ ghost use Rattle.std.specs.Prelude.{◌≤◌, None, IfOk, length};
 use cet_base::{Failed, Files, Sink};
 use std::fs::{File, OpenFile, Permissions};
 use std::io::{self, ErrorKind, Read, Seek, SeekFrom, Write};
+use std::os::unix::fs::PermissionsExt;
 use std::path::{Path, PathBuf};
 use std::{fs, rt};
 
@@ -45,15 +46,26 @@ fn create_beside<R: rt::Files + AllocGlobal>(
     Err(io::Error::from(ErrorKind::AlreadyExists))
 }
 
-// Gives a new file these permissions and bytes, and waits until the disk has them.
+// Whether an ELF file of these bytes is an executable: its e_type is ET_EXEC.
+fn is_program(bytes: &[u8]) -> bool {
+    bytes.starts_with(b"\x7fELF") && bytes.get(16) == Some(&2)
+}
+
+// Gives a new file its bytes and these permissions, or keeps its own, and waits until the disk has them. Those who may read an executable may run it.
 fn fill<F: Write + OpenFile>(
     file: &mut F,
     bytes: &[u8],
     permissions: Option<Permissions>,
 ) -> io::Result<()> {
-    if let Some(permissions) = permissions {
-        file.set_permissions(permissions)?;
+    let mut permissions = match permissions {
+        Some(permissions) => permissions,
+        None => file.metadata()?.permissions(),
+    };
+    if is_program(bytes) {
+        let mode = permissions.mode();
+        permissions.set_mode(mode | (mode & 0o444) >> 2);
     }
+    file.set_permissions(permissions)?;
     file.write_all(bytes)?;
     file.sync_all()
 }

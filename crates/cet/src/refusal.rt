@@ -5,14 +5,17 @@ ghost use Rattle.std.specs.String.{string_bytes};
 ghost use Rattle.cet_base.specs.Text.{hexadecimal};
 ghost use Rattle.cet.specs.Answer.{GainsOrFails};
 ghost use Rattle.cet.specs.Text.{file_line as line_of_file};
-ghost use Rattle.cet.specs.Unfit.{reason, place as place_of, bad_line, elf_word as word_of_elf, elf_place as place_in_file, fault_word as word_of, asm_word as word_of_asm, no_form_word as word_of_no_form, fault_place as offset_of};
+ghost use Rattle.cet.specs.Unfit.{reason, place as place_of, bad_line, elf_word as word_of_elf, elf_place as place_in_file, fault_word as word_of, asm_word as word_of_asm, no_form_word as word_of_no_form, fault_place as offset_of, schedule_word as word_of_schedule, schedule_line as line_of_schedule, image_word as word_of_image, image_place as place_of_image, load_word as word_of_load, load_place as place_of_load};
 
 use crate::status;
 use cet_asm::{AsmError, AsmKind};
 use cet_base::{NoMemory, Sink, write_all};
 use cet_elf::ElfError;
+use cet_image::ImageError;
 use cet_isa::DecodeError;
+use cet_kernel::LoadError;
 use cet_note::NoteError;
+use cet_schedule::ScheduleError;
 use std::alloc::{AllocError, Global};
 
 /// Why a file is unfit for a command.
@@ -30,9 +33,19 @@ pub enum Unfit {
     NoAssembly(AsmError),
     /// The bytes at an address are no instruction, for this reason, where a listing is asked for.
     NoForm { at: u64, why: DecodeError },
+    /// It is no schedule, for this fault, where one is asked for.
+    NoSchedule(ScheduleError),
+    /// It is no executable, for this fault, where one is asked for.
+    NoExec(ElfError),
+    /// The executable that it holds is no image, for this reason, where it is to be run.
+    NoImage(ImageError),
+    /// The program that it holds is not loaded, for this reason, where it is to be run.
+    NoLoad(LoadError),
+    /// What the object that it holds has as its property note is none, for this fault, where it is to be linked.
+    NoInputNote(NoteError),
 }
 
-// The word for the fault of an object.
+// The word for the fault of an object or an executable.
 fn elf_word(fault: ElfError) -> &'static str
     ensures { result.now ≡ word_of_elf fault }
 {
@@ -125,11 +138,82 @@ fn asm_word(kind: AsmKind) -> &'static str
     }
 }
 
+// The word for what is wrong with a schedule.
+fn schedule_word(fault: ScheduleError) -> &'static str
+    ensures { result.now ≡ word_of_schedule fault }
+{
+    match fault {
+        ScheduleError::Line { .. } => "line",
+        ScheduleError::TooMany { .. } => "toomany",
+        ScheduleError::NoMemory => "nomemory",
+    }
+}
+
+// The line that has it.
+fn schedule_line(fault: ScheduleError) -> u32
+    ensures { result ≡ line_of_schedule fault }
+{
+    match fault {
+        ScheduleError::Line { line } | ScheduleError::TooMany { line } => line,
+        ScheduleError::NoMemory => 0,
+    }
+}
+
+// The word for why an executable is no image.
+fn image_word(error: ImageError) -> &'static str
+    ensures { result.now ≡ word_of_image error }
+{
+    match error {
+        ImageError::Empty => "empty",
+        ImageError::Note { error } => fault_word(error),
+        ImageError::TooMany => "toomany",
+        ImageError::Range { .. } => "range",
+        ImageError::Overlap { .. } => "overlap",
+        ImageError::NoMemory => "nomemory",
+    }
+}
+
+// The word for why a program is not loaded.
+fn load_word(fault: LoadError) -> &'static str
+    ensures { result.now ≡ word_of_load fault }
+{
+    match fault {
+        LoadError::Place { .. } => "place",
+        LoadError::Shared { .. } => "shared",
+        LoadError::NoMemory => "nomemory",
+    }
+}
+
+// The start of the segment that has it.
+fn load_place(fault: LoadError) -> u64
+    ensures { result ≡ place_of_load fault }
+{
+    match fault {
+        LoadError::Place { at } => at,
+        LoadError::Shared { a, .. } => a,
+        LoadError::NoMemory => 0,
+    }
+}
+
 // An address as text.
 fn address(at: u64, alloc: Global) -> Result<String, AllocError>
     ensures { IfOk result (λ text. string_bytes text ≡ hexadecimal at) }
 {
     format!(in alloc; "0x{at:x}")
+}
+
+// Where an executable is no image: an offset in its note, or an address.
+fn image_place(error: ImageError, alloc: Global) -> Result<String, AllocError>
+    ensures { IfOk result (λ text. string_bytes text ≡ place_of_image error) }
+{
+    match error {
+        ImageError::Note { error } => fault_place(error).to_string(alloc),
+        ImageError::Range { at } => address(at, alloc),
+        ImageError::Overlap { a, .. } => address(a, alloc),
+        ImageError::Empty | ImageError::TooMany | ImageError::NoMemory => {
+            String::from_str(alloc, "0")
+        }
+    }
 }
 
 impl Unfit {
@@ -140,9 +224,13 @@ impl Unfit {
             Unfit::Empty => "empty",
             Unfit::TooLarge => "toolarge",
             Unfit::NoObject(fault) => elf_word(fault),
-            Unfit::NoNote(fault) => fault_word(fault),
+            Unfit::NoNote(fault) | Unfit::NoInputNote(fault) => fault_word(fault),
             Unfit::NoAssembly(fault) => asm_word(fault.kind),
             Unfit::NoForm { why, .. } => no_form_word(why),
+            Unfit::NoSchedule(fault) => schedule_word(fault),
+            Unfit::NoExec(fault) => elf_word(fault),
+            Unfit::NoImage(error) => image_word(error),
+            Unfit::NoLoad(fault) => load_word(fault),
         }
     }
 
@@ -151,9 +239,15 @@ impl Unfit {
     {
         match self {
             Unfit::NoObject(fault) => elf_place(fault).to_string(alloc),
-            Unfit::NoNote(fault) => fault_place(fault).to_string(alloc),
+            Unfit::NoNote(fault) | Unfit::NoInputNote(fault) => {
+                fault_place(fault).to_string(alloc)
+            }
             Unfit::NoAssembly(fault) => fault.line.to_string(alloc),
             Unfit::NoForm { at, .. } => address(at, alloc),
+            Unfit::NoSchedule(fault) => schedule_line(fault).to_string(alloc),
+            Unfit::NoExec(fault) => elf_place(fault).to_string(alloc),
+            Unfit::NoImage(error) => image_place(error, alloc),
+            Unfit::NoLoad(fault) => address(load_place(fault), alloc),
             _ => String::from_str(alloc, "0"),
         }
     }

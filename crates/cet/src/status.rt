@@ -6,6 +6,12 @@ pub const DONE: u8 = 0;
 /// `check` names a broken rule.
 pub const REFUSED: u8 = 1;
 
+/// `link` tells why the objects are not linked.
+pub const UNLINKED: u8 = 1;
+
+/// The process of `run` ended by a fault, or with a status other than 0.
+pub const FAILED: u8 = 1;
+
 /// The words are no command.
 pub const WORDS: u8 = 2;
 

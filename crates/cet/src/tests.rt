@@ -8,8 +8,11 @@ use std::test::Fail;
 
 mod asm;
 mod dis;
+mod link;
 mod notes;
 mod real_files;
+mod requests;
+mod runs;
 
 /// What the program answered.
 #[derive(Drop)]

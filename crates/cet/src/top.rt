@@ -1,20 +1,21 @@
 //! All that the program does, over any files and outputs.
 
-ghost use Rattle.std.specs.Prelude.{◌≡◌, ◌≢◌, ◌≤◌, ◌<◌, ◌↔◌, ◌⊎◌, ℕ, List, [], Some};
+ghost use Rattle.std.specs.Prelude.{◌≡◌, ◌≢◌, ◌≤◌, ◌<◌, ◌⊎◌, ℕ, List, [], Some};
 ghost use Rattle.cet_base.specs.Faults.{Rose};
 ghost use Rattle.cet_base.specs.Files.{Contents, FileMeets};
 ghost use Rattle.cet_base.specs.Sink.{Gains, GainsPart};
 ghost use Rattle.cet_rules.specs.declared.verdict.Verdict.TheVariants.{Accepted};
 ghost use Rattle.cet_rules.specs.Report.{report};
-ghost use Rattle.cet.specs.Command.{Command, CheckRaw, Asks, AreRefused, texts};
+ghost use Rattle.cet.specs.Command.{Command, CheckRaw, Link, Asks, AreRefused, texts};
 ghost use Rattle.cet.specs.Text.{words_line, file_line};
 ghost use Rattle.cet.specs.declared.refusal.Unfit.{Unfit};
 ghost use Rattle.cet.specs.Unfit.{bad_line, IsUnfitFor};
 ghost use Rattle.cet.specs.Steps.{step_of, ComesTo};
 ghost use Rattle.cet.specs.Refused.{IsUnread, IsUnreplaced};
-ghost use Rattle.cet.specs.Answer.{WithCommand, IsReport, IsAnswer, IsCertified, AreThere, GainsOrFails, Leaves};
+ghost use Rattle.cet.specs.Answer.{WithCommand, IsReport, IsAnswer, IsCertified, AreThere, GainsOrFails, Leaves, ClaimsWhatAllClaim};
 
 use crate::command::Command as Request;
+use crate::found::NoCommand;
 use crate::refusal::say;
 use crate::status;
 use cet_base::{Files, Sink};
@@ -23,10 +24,12 @@ use std::alloc::Global;
 
 /// Carries out the command of the words, the verb first, and answers the status. `asm --out OUT FILE` makes the file OUT the object of an assembly
 /// text; `check --raw FILE` certifies raw code; `dis FILE` lists raw code; `notes FILE...` prints the property note of each file and what a link of
-/// them may claim.
+/// them may claim; `run` runs raw code or an executable, by a schedule and on an input, if they are given, and prints how the run ends;
+/// `link --out OUT FILE...` makes the file OUT the static executable of the objects, which starts at `_start` or at the symbol after `--entry`.
 ///
-/// Statuses: 0 done, or accepted; 1 a rule is broken; 2 the words are no command; 3 a file could not be read or replaced; 4 no memory;
-/// 5 the output failed; 6 a file is not of its form or over its limit. It may be 4 in place of any answer but 2.
+/// Statuses: 0 done, or accepted; 1 a rule is broken, the objects cannot be linked, or the process that was run ended by a fault or with a status other than 0; 2 the words are no
+/// command; 3 a file could not be read or replaced; 4 no memory; 5 the output failed; 6 a file is not of its form or over its limit. It may be 4 in
+/// place of any answer.
 ///
 /// How the contract reads. `Gains old new text`: the output took the whole text and nothing else. `GainsPart old new text`: it took some first
 /// part of it, which may be empty or the whole. `GainsOrFails`: the whole, or a first part where its count of faults rose. `Rose old new`: that
@@ -46,15 +49,22 @@ pub fn top<F: Files, O: Sink, E: Sink>(
     // 0 of `check --raw`: the output gained `accepted`, and the file's code keeps the rules and no run of it ends by a missed ENDBR64.
     ensures accepted { (name : List ℕ) → Asks (texts words.now) (CheckRaw name) → result ≡ 0
         → Gains (O.bytes out.old) (O.bytes out.new) (report Accepted) × FileMeets (F.contents files.old) name IsCertified }
-    // 0 and 1: the output gained the whole report of the command on what the files hold; with 1 it names the first broken rule.
+    // 0 and 1: the output gained the whole report of the command on what the files hold; with 1 it names the first broken rule, why the
+    // objects cannot be linked, or the fault or the status by which the process ended.
     ensures reported { result < 2 → WithCommand (texts words.now) (λ command. (text : List ℕ)
         × Gains (O.bytes out.old) (O.bytes out.new) text × IsReport (F.contents files.old) command result text) }
 
-    // 0: `asm` has made the file after `--out` the object file of the text; no other file changed, and other commands change none.
+    // 0: `asm` has made the file after `--out` the object file of the text, and `link` the executable file of the objects; no other file changed, and
+    // other commands change none.
     ensures replaced { result ≡ 0 → WithCommand (texts words.now) (Leaves (F.contents files.old) (F.contents files.new)) }
 
-    // 2: exactly where the words are no command; the line is `cet: words`.
-    ensures words { (result ≡ 2) ↔ AreRefused (texts words.now) }
+    // 0 of `link`: the executable claims IBT in its note exactly where the note of every input does, and SHSTK so too.
+    ensures features { (out start : List ℕ) (names : List (List ℕ)) → Asks (texts words.now) (Link out start names) → result ≡ 0
+        → ClaimsWhatAllClaim (F.contents files.old) (F.contents files.new) out names }
+
+    // 2: only where the words are no command, and such words come to nothing else but 4; the line is `cet: words`.
+    ensures words { result ≡ 2 → AreRefused (texts words.now) }
+    ensures words_refused { AreRefused (texts words.now) → (result ≡ 2) ⊎ (result ≡ 4) }
     ensures words_said { result ≡ 2 → GainsOrFails (E.bytes err.old) (E.bytes err.new) (E.faults err.old) (E.faults err.new) words_line }
 
     // 3: only where a file to be read is known not to exist, or the files' count of faults rose in this call, at the read or at the replacement of
@@ -91,9 +101,13 @@ pub fn top<F: Files, O: Sink, E: Sink>(
 {
     // The theorem that code which keeps the rules never misses an ENDBR64; at run time it does nothing.
     soundness();
-    let Some(request) = Request::read(words) else {
-        say(err, b"cet: words\n");
-        return status::WORDS;
+    let request = match Request::read(alloc, words) {
+        Ok(request) => request,
+        Err(NoCommand::NoMemory) => return status::NO_MEMORY,
+        Err(NoCommand::Refused) => {
+            say(err, b"cet: words\n");
+            return status::WORDS;
+        }
     };
     match request.run(alloc, files, out) {
         Ok(status) => status,

@@ -33,7 +33,7 @@ fn words_of_asm(rt: HostRuntime) -> Result<(), Fail> {
         (&["asm", "--out", "b"], "cet: words\n", 2),
         (&["asm", "--out", "a", "-b"], "cet: words\n", 2),
         (&["asm", "--out", "-b", "a"], "cet: words\n", 2),
-        (&["asm", "--out=-b", "a"], "cet: words\n", 2),
+        (&["asm", "--out=-b", "a"], "cet: file -b\n", 3),
         (&["asm", "--ou", "b", "a"], "cet: words\n", 2),
         (&["asm", "a", "--out"], "cet: words\n", 2),
         (&["asm", "a", "b", "--out"], "cet: words\n", 2),

@@ -24,7 +24,7 @@ returns-in_err-object-clause-refused g c =
     let name = c.args.file.now in
     let held : FileMeets told name (λ held. held ≡ c.deref.result.now) = subst (λ (b : List ℕ). FileMeets told name (λ held. held ≡ b)) (sym c.deref.ensures.value) c.in_ok-text.ensures.held.0 in
     rw (p.1, p.2)
-    (one_form_refused told before after (Asm c.args.out.now name) name c.in_ok-text.text.items c.in_err-object.field-0.0 refl c.in_ok-text.ensures.held
+    (one_form_refused told before after (Asm c.args.out.now name) name c.in_ok-text.text.items c.in_err-object.field-0.0 refl refl c.in_ok-text.ensures.held
     (c.in_err-object.ensures.refused told before after c.args.out.now held))
 
 pub returns-in-Ok-replace-clause-replaced : goal.returns-in-Ok-replace-clause-replaced

@@ -42,5 +42,5 @@ returns-in_err-check_form-clause-refused g c =
     let held : FileMeets e.files name (λ held. held ≡ c.deref.result.now) = subst (λ (b : List ℕ). FileMeets e.files name (λ held. held ≡ b)) (sym c.deref.ensures.value) c.in_ok-bytes.ensures.held.0 in
     rw (p.1, p.2)
     (before_output e command c.in_err-check_form.field-0.0 (gains_nothing e.out_before)
-    (one_form_refused e.files e.faults_before e.faults_after command name bytes c.in_err-check_form.field-0.0 refl c.in_ok-bytes.ensures.held
+    (one_form_refused e.files e.faults_before e.faults_after command name bytes c.in_err-check_form.field-0.0 refl refl c.in_ok-bytes.ensures.held
     (c.in_err-check_form.ensures.refused e.files e.faults_before e.faults_after held)))

@@ -1,12 +1,11 @@
-use Rattle.std.proofs.Common.{rules, ◌≡◌, ◌+◌, ◌<◌, ◌∷◌, ◌++◌, [], ℕ, List, length, get_or, take, sym, subst, ◌∙◌, arith}
+use Rattle.std.proofs.Common.{rules, ◌≡◌, ◌+◌, ◌<◌, ◌∷◌, ◌++◌, [], List, length, get_or, take, sym, subst, ◌∙◌, arith}
 use Rattle.std.proofs.lemmas.Result.{err_from_is_err_and}
-use Rattle.cet_base.specs.Files.{FileMeets}
 use Rattle.cet_note.specs.Note.{Note}
-use Rattle.cet.specs.Command.{texts}
+use Rattle.cet.specs.Command.{names_of}
 use Rattle.cet.specs.Notes.{IsFileNote, AllBoth, items_of}
-use Rattle.cet.proofs.Words.{texts_at, length-texts}
+use Rattle.cet.proofs.NameLemmas.{name_at, length-names_of}
 use Rattle.cet.proofs.Pairs.{AllBoth-more, items_at, length-items_of}
-use Rattle.cet.proofs.StepLemmas.{form_refused, bytes_at}
+use Rattle.cet.proofs.StepLemmas.{form_refused, meets_at}
 use Rattle.cet.proofs.notes.read_forms.Goals as goal
 
 pub returns-in_err-note-clause-refused : goal.returns-in_err-note-clause-refused
@@ -15,18 +14,15 @@ returns-in_err-note-clause-refused c =
     let names = c.args.names.now in
     let held = items_of c.args.held.now in
     let i = c.loop-i.i in
-    let name = c.as_str.result.now in
     let bytes = c.deref.result.now in
-    let below : i < length (texts names) = omega (arith, length-texts names) in
+    let below : i < length (names_of names) = omega (arith, length-names_of names) in
     let within : i < length c.args.held.now = omega arith in
-    let here : get_or (texts names) i name ≡ name = texts_at names i c.index-names-i.result name c.loop-i-test.true c.index-names-i.is ∙ sym c.as_str.ensures.value in
     let its : get_or held i bytes ≡ bytes = items_at c.args.held.now i c.index-held-i.result bytes within c.index-held-i.is ∙ sym c.deref.ensures.value in
     rw (p.1, p.2)
     (λ told before after holds.
-    form_refused told before after (texts names) held c.loop-i.notes.items i name c.in_err-note.field-0.0 below here holds c.loop-i.invariant
-    (c.in_err-note.ensures.refused told before after (texts names)
-    (subst (λ (n : List ℕ). FileMeets told n (λ b. b ≡ bytes)) here
-    (subst (λ (x : List ℕ). FileMeets told (get_or (texts names) i name) (λ b. b ≡ x)) its (bytes_at told (texts names) held i name bytes below holds)))))
+    form_refused told before after (names_of names) held c.loop-i.notes.items i _ c.in_err-note.field-0.0 below (name_at names i _ _ c.loop-i-test.true) holds c.loop-i.invariant
+    (c.in_err-note.ensures.refused told before after (names_of names)
+    (meets_at told names held i _ bytes c.loop-i-test.true its holds)))
 
 pub loop-i-preserved : goal.loop-i-preserved
 loop-i-preserved c =
