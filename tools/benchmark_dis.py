@@ -43,7 +43,7 @@ def seconds(words, out):
 def peak_kibibytes(words):
     """The most memory that the command held. It is asked for while the command runs: getrusage counts what this process held too."""
     peak = 0
-    with subprocess.Popen(words, stdout=subprocess.DEVNULL) as process:
+    with subprocess.Popen(words, stdout=subprocess.DEVNULL, stderr=subprocess.DEVNULL) as process:
         while process.poll() is None:
             found = re.search(r"VmHWM:\s+(\d+) kB", Path(f"/proc/{process.pid}/status").read_text())
             peak = int(found.group(1)) if found else peak

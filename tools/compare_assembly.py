@@ -6,7 +6,9 @@ Usage: compare_assembly.py [COUNT [SEED]]      100000 forms of seed 1 where noth
 - Random forms of every row of the table of forms: the text that `dis` prints is assembled, and objdump says of the bytes what the text says; the
   text that `dis` prints of these bytes, which are canonical forms, is assembled to the same bytes.
 - Of every text with a number of 32 bits: a symbol in its place, to which ld gives the value, makes the same bytes.
-- The example programs: readelf takes the objects without a warning, ld links them, and the first one ends with status 0 here.
+- The example programs and a text with every directive, site word and kind of field: GNU as makes the same sections, symbols and relocations of them
+  in its own spelling, and ld links them; the first one ends with status 0 here.
+- readelf takes each object without a warning.
 """
 import itertools
 import re
@@ -16,13 +18,31 @@ import sys
 import tempfile
 from pathlib import Path
 
+import compare_objects
 import forms
+import gnu
 import listing
 import objdump
 
-PROGRAMS = ("signal.s", "fibers.s")
+PROGRAMS = ("signal.s", "one_context.s", "fibers.s")
 # fewer than the names that an object may have
 PIECE = 50000
+# words whose constant is no field of 32 bits with a sign: it has no sign, or is a count of 8 bits
+NOT_SIGNED = ("movabs", "rol", "ror", "shl", "shr", "sar")
+
+
+# Every directive, every site word, and names in every kind of field, with and without a number.
+EVERYTHING = """.note shstk ibt; .global f; .global s; .section data; table: .word 0x8000000000000000; .word -1; .word @f
+.byte 255; .byte -128; .align 8; .byte 1; .align 16; entries: .off f, entries; .off g, table; .off far, entries; .zero 5; .object o 3; .object p 0
+.section bss; .zero 1; b: .object s 24; .section rodata; r: .word @far; .section text
+.func g; ret; .end; .func f; a: land 8, @f; land 72, @g+5; release 72; release 2147483615; throw; switch @s, @s+8; switch @s-8, @far; fibermake @s, @g
+fibermake @s+16, @g-1; spawn g; action 10, @table; action 0, @table+32; read @s, 4294967295; read @b+1, 0; throw; spawn far
+call f; call far; call rbx; jmp a; jmp far; je a; jg far; notrack jmp rdx; jmp.s a2; a2: jne.s a2; movabs.4 rsi, @r; movabs.4 r9, @r+1; movabs.8 r9, @r-1
+movabs.8 rax, @far; mov.8 rbx, @r; mov.8 [rax], @r+4; add.8 rcx, @r; sub.4 rdx, @r-2; cmp.8 [r12+rcx*8-4], @r; imul.8 rcx, rdx, @r; push @far; push @far+1
+test.4 rcx, @r; ld.8 rax, [@b]; mov.4 [rax*8+@b+8], rdx; lea.8 rax, [rcx+@b-8]; ld.8 rax, [rip+@b]; mov.8 [rip+@b+4], 5; add.4 [rip+@far], 1000
+cmp.1 [rip+@b-3], 7; mov.8 [rip+@b], @far; mov.8 [rbx+@far], @b; call [rip+@far]; jmp [rax*8+@table]; shl.4 [rip+@b], 3; push [rip+@b]; lock xadd.8 [@b], rax
+movzx.4 rax, [rip+@b]; imul.4 rcx, [rip+@b], 9; .align 16; .word @f; .byte 7; .zero 2; .end; .func empty; .end
+"""
 
 
 def run(*words):
@@ -30,12 +50,53 @@ def run(*words):
 
 
 def assembled(folder, text):
-    """The object of the text."""
+    """The object of the text, which readelf has no warning for."""
     (folder / "a.s").write_text(text)
     made = run(listing.CET, "asm", "--out", folder / "a.o", folder / "a.s")
     if made.returncode or made.stdout:
         sys.exit(f"./cet asm ended with status {made.returncode}: {made.stderr}")
+    told = run("readelf", "-aW", folder / "a.o")
+    if told.returncode or told.stderr or "Warning" in told.stdout:
+        sys.exit(f"readelf: {told.stderr[:2000]}")
     return folder / "a.o"
+
+
+def assembled_by_gnu(folder, text):
+    """What GNU as makes of the text in its own spelling."""
+    (folder / "b.s").write_text(gnu.spelled(text))
+    made = run("as", "-mshared", "-o", folder / "b.o", folder / "b.s")
+    if made.returncode or made.stderr:
+        sys.exit(f"as: {made.stderr[:2000]}")
+    return folder / "b.o"
+
+
+def facts(path):
+    """A line for each section that has bytes, for each named symbol, and for each relocation with its symbol's name, in the order of the lines."""
+    data, rows, lines = path.read_bytes(), compare_objects.sections(path), []
+    for name, kind, offset, size, flags, *_ in rows:
+        if "A" in flags and size > 0:
+            lines.append(f"section {name} {kind} {flags} {size} {'' if kind == 'NOBITS' else data[offset:offset + size].hex()}")
+    table = [(row[0].removeprefix("n_"), *row[1:]) for row in compare_objects.symbols(path)]
+    for name, kind, _, place, value, size in table:
+        if name and kind != "SECTION":
+            lines.append(f"symbol {name} {kind} {rows[int(place)][0] if place.isdigit() else place} {value} {size}")
+    text = next(data[row[2]:row[2] + row[3]] for row in rows if row[0] == ".text")
+    for name, entries in compare_objects.relocations(path).items():
+        for at, kind, symbol, addend in entries:
+            if name == ".rela.text":
+                kind = type_here(kind, text[at - 1])
+            lines.append(f"{name} {at:#x} {kind} {table[symbol][0]} {addend}")
+    return sorted(lines)
+
+
+def type_here(kind, before):
+    """The type that `cet` gives a relocation behind this byte: as has R_X86_64_PLT32 for JMP and Jcc too, where `cet` has R_X86_64_PC32, and
+    R_X86_64_32 for a constant of an instruction of 32 bits, where `cet` has R_X86_64_32S but for MOV to a register by B8 to BF."""
+    if kind == 4 and before != 0xe8:
+        return 2
+    if kind == 10 and before & 0xf8 != 0xb8:
+        return 11
+    return kind
 
 
 def section(folder, file):
@@ -79,7 +140,7 @@ def with_symbol(text, i):
         plus = "+" if found[2][0] == "-" and not found[1].endswith("[") else ""
         return f"{found[1]}{plus}@s{i}{found[3]}", int(found[2]), "rip" in text
     found = re.fullmatch(r"([a-z]+[0-9]?\.[48] .*, |push )(-?\d+)", text)
-    if found and abs(int(found[2])) > 128 and not found[1].startswith("movabs"):
+    if found and abs(int(found[2])) > 128 and not found[1].startswith(NOT_SIGNED):
         return f"{found[1]}@s{i}", int(found[2]), False
     return None
 
@@ -112,13 +173,13 @@ def linked(folder, texts, pieces):
 
 def programs(folder):
     bad = []
-    for name in PROGRAMS:
-        object_file = assembled(folder, (listing.TOP / "examples" / name).read_text())
-        told = run("readelf", "-aW", object_file)
-        if told.returncode or told.stderr or "Warning" in told.stdout:
-            bad.append(f"{name}: readelf: {told.stderr}")
-        ended = run("ld", "-o", folder / "a.out", object_file)
-        if ended.returncode:
+    texts = {name: (listing.TOP / "examples" / name).read_text() for name in PROGRAMS}
+    for name, text in {**texts, "everything": EVERYTHING}.items():
+        object_file = assembled(folder, text)
+        mine, other = facts(object_file), facts(assembled_by_gnu(folder, text))
+        bad += [f"{name}: {line} by one assembler alone" for line in set(mine) ^ set(other)]
+        ended = run("ld", *([] if name in texts else ["--defsym", "far=0x12345678", "-e", "f"]), "-o", folder / "a.out", object_file)
+        if ended.returncode or ended.stderr:
             bad.append(f"{name}: ld: {ended.stderr}")
         elif name == PROGRAMS[0] and run(folder / "a.out").returncode != 0:
             bad.append(f"{name} ends with another status than 0")
@@ -126,7 +187,7 @@ def programs(folder):
 
 
 def main(count, seed):
-    missing = [word for word in ("objdump", "objcopy", "readelf", "ld") if not shutil.which(word)]
+    missing = [word for word in ("objdump", "objcopy", "readelf", "ld", "as") if not shutil.which(word)]
     if missing:
         print(f"skipped: no {missing[0]} here")
         return 0
@@ -150,7 +211,7 @@ def main(count, seed):
             done += len(part)
         bad += programs(folder)
     print(*bad[:20], sep="\n", end="\n" if bad else "")
-    print(f"{done} forms of seed {seed} and {with_symbols} symbols compared, {len(bad)} differ; {len(PROGRAMS)} programs")
+    print(f"{done} forms of seed {seed} and {with_symbols} symbols compared, {len(PROGRAMS) + 1} programs, {len(bad)} differences")
     return 1 if bad else 0
 
 
