@@ -1,6 +1,4 @@
-pub mod Bits
-pub mod BoxChoices
-pub mod BoxRun
 pub mod Choices
 pub mod Gained
 pub mod Limits
+pub mod Runs

@@ -1,7 +1,5 @@
-pub mod BoxTurn
-pub mod Boxes
 pub mod Laws
-pub mod Lowest
 pub mod Report
+pub mod Run
 pub mod Text
 pub mod Turn

@@ -7,7 +7,6 @@ use Rattle.cet_process.specs.declared.outcome.Outcome.TheVariants as outcomes
 use Rattle.cet_process.specs.State.{State}
 use Rattle.cet_process.specs.After.{after}
 use Rattle.cet_process.specs.Run.{state_after}
-use Rattle.cet_process.specs.Chosen.{Round, chosen}
 use Rattle.cet_run.specs.declared.report.Done.{Done}
 use Rattle.cet_run.specs.declared.report.RunEnd.{RunEnd}
 use Rattle.cet_run.specs.declared.report.RunEnd.TheVariants.{Ended, Died, LimitReached, ChoicesEnded}
@@ -35,7 +34,3 @@ abbrev pub report : State → List Event → ℕ → Report
 report S events limit =
     let end = state_after S events in
     record { events = done S events; output = end.output; last = last end.end (length events) limit }
-
--- the events of a run: the given ones, and then a step of each living thread in turn, from the least number on
-abbrev pub round_robin : State → List Event → ℕ → List Event
-round_robin S given limit = chosen S given (Round None ∷ []) limit

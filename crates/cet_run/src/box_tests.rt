@@ -1,10 +1,10 @@
 //! Choosers and watchers of a caller's own. The process is `call 2f; ud2; 2: call 3f; 3: ret`, with both features: its third step is a RET to an
 //! address that is not the one on the shadow stack.
-ghost use Rattle.std.specs.Prelude.{Some, None, drop};
-ghost use Rattle.cet_process.specs.Chosen.{Listed};
+ghost use Rattle.std.specs.Prelude.{None};
 
+use crate::example_tests::{Few, Script};
 use crate::tests::{CALLS, process};
-use crate::{Event, Outcome, Report, RunEnd, run_boxed};
+use crate::{Event, Outcome, Report, RunEnd, run};
 use bitflags::Flags;
 use cet_choosers::{Chooser, Counter, RoundRobin, Watcher};
 use cet_isa::Fault;
@@ -24,50 +24,6 @@ impl Chooser for Endless {
 
     fn next(&mut self, _view: View) -> Option<Event> {
         Some(self.0)
-    }
-}
-
-// These events, from this index on.
-#[derive(Drop)]
-struct Script {
-    events: Vec<Event>,
-    next: usize,
-}
-
-impl Chooser for Script {
-    ghost plan = { λ script. Some (Listed (drop script.next script.events.items)) };
-
-    fn next(&mut self, _view: View) -> Option<Event> {
-        if self.next < self.events.len() {
-            let event = self.events[self.next];
-            self.next += 1;
-            Some(event)
-        } else {
-            None
-        }
-    }
-}
-
-// Has enough at this number of events, and says to `told` that it was shown one.
-#[derive(Drop)]
-struct Few {
-    number: u64,
-    last: Option<(Event, Outcome)>,
-    limit: u64,
-    told: Rc<Cell<u64>>,
-}
-
-impl Watcher for Few {
-    ghost seen = { λ few. Some (record { number = few.number; last = few.last; limit = Some few.limit }) };
-
-    fn see(&mut self, event: Event, outcome: Outcome) {
-        self.number = self.number.saturating_add(1);
-        self.last = Some((event, outcome));
-        self.told.set(self.told.get().wrapping_add(1));
-    }
-
-    fn done(&self) -> bool {
-        self.limit <= self.number
     }
 }
 
@@ -139,7 +95,7 @@ fn run_row(alloc: Global, row: &Row, watchers: &mut Vec<Box<dyn Watcher>>) -> Re
     if row.round {
         choosers.push(Box::new(alloc, RoundRobin::new())?)?;
     }
-    Ok(run_boxed(alloc, process, row.given, choosers, watchers, row.limit)?)
+    Ok(run(alloc, process, row.given, choosers, watchers, row.limit)?)
 }
 
 fn ignored(report: &Report) -> usize {
@@ -248,8 +204,8 @@ fn watchers(rt: HostRuntime) -> Result<(), Fail> {
     let mut watchers: Vec<Box<dyn Watcher>> = Vec::new(rt.alloc());
     let mut counts = Vec::new(rt.alloc());
     for (number, limit, _) in rows {
-        let told = Rc::new(rt.alloc(), Cell::new(0))?;
-        counts.push(told.clone()?)?;
+        let shown = Rc::new(rt.alloc(), Cell::new(0))?;
+        counts.push(shown.clone()?)?;
         let last = None;
         watchers.push(Box::new(
             rt.alloc(),
@@ -257,7 +213,7 @@ fn watchers(rt: HostRuntime) -> Result<(), Fail> {
                 number,
                 last,
                 limit,
-                told,
+                shown,
             },
         )?)?;
     }

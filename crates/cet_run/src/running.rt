@@ -1,33 +1,49 @@
-//! The run of one process.
-ghost use Rattle.std.specs.Prelude.{◌≡◌, [], length, IfOk, OnOk};
+//! The run of one process, whose events choosers choose and watchers see that the caller hands in.
+ghost use Rattle.std.specs.Prelude.{◌≡◌, ◌≤◌, [], map, reverse, length, IfOk, OnOk};
 ghost use Rattle.cet_process.specs.Run.{state_after};
-ghost use Rattle.cet_run.specs.Report.{done as done_of, last as last_of, round_robin};
-ghost use Rattle.cet_run.specs.Turn.{Turns, IsWhole};
+ghost use Rattle.cet_run.specs.Report.{done as done_of, last as last_of};
+ghost use Rattle.cet_run.specs.Turn.{ChoosesNext, Turns};
+ghost use Rattle.cet_run.specs.Run.{applied, BeginsWith, AreChosen, AreWatched, UsesGiven, IsRun};
 
-use crate::choosing::next_event;
 use crate::report::{Done, DoneList, Report, RunEnd};
 use cet_base::{Bytes, NoMemory};
+use cet_choosers::{Chooser, Watcher, show};
 use cet_kernel::Process;
-use cet_process::{Event, Outcome};
+use cet_process::{Event, Outcome, View};
 use std::alloc::Global;
 
 /// The most events of a report, which takes less than 1 GiB. Where a run has more, that is want of memory.
-pub(crate) const MOST_EVENTS: usize = 8_388_608;
+const MOST_EVENTS: usize = 8_388_608;
 
-/// Applies one event: the given one of this index, or else a step of the next living thread from the number `from` on. `None` where the process has
-/// ended, or there is no event to choose.
-fn turn(
+/// The next event: the given one of this index, or else that of the last chooser that has one.
+fn next_event<C: Chooser>(
+    view: View,
+    given: &[Event],
+    index: usize,
+    choosers: &mut Vec<C>,
+) -> Option<Event>
+    ensures { ChoosesNext view given.now index (map C.plan (reverse choosers.old.items)) (map C.plan (reverse choosers.new.items)) result }
+{
+    if let Some(event) = given.get(index) {
+        return Some(*event);
+    }
+    cet_choosers::next_event(choosers, view)
+}
+
+/// Applies one event: the given one of this index, or else that of the last chooser that has one. `None` where the process has ended, or there is
+/// no event to choose.
+fn turn<C: Chooser>(
     process: &mut Process,
     given: &[Event],
     index: usize,
-    from: &mut u32,
+    choosers: &mut Vec<C>,
 ) -> Result<Option<Done>, NoMemory>
-    ensures { IfOk result (Turns process.old process.new given.now index from.old from.new) }
+    ensures { IfOk result (Turns process.old process.new given.now index (map C.plan (reverse choosers.old.items)) (map C.plan (reverse choosers.new.items))) }
 {
     if process.ended().is_some() {
         return Ok(None);
     }
-    match next_event(process.view(), given, index, from) {
+    match next_event(process.view(), given, index, choosers) {
         None => Ok(None),
         Some(event) => {
             let outcome = process.apply(event)?;
@@ -36,32 +52,38 @@ fn turn(
     }
 }
 
-/// Applies the events of a run, and keeps each with its outcome.
-fn apply_all(
+/// Applies the events of a run, shows each to the watchers, and keeps each with its outcome. The first chooser stands last.
+fn apply_all<C: Chooser, W: Watcher>(
     process: &mut Process,
     given: &[Event],
+    choosers: &mut Vec<C>,
+    watchers: &mut Vec<W>,
     limit: u32,
     events: &mut DoneList,
 ) -> Result<(), NoMemory>
     requires { events.old ≡ [] }
-    ensures { OnOk result (IsWhole process.old (round_robin process.old given.now limit) process.new events.new) }
+    ensures run { OnOk result (IsRun process.old given.now (map C.plan (reverse choosers.old.items)) limit process.new events.new) }
+    ensures watched { OnOk result (AreWatched (map W.seen watchers.old.items) events.new (map W.seen watchers.new.items)) }
+    ensures untouched { OnOk result (events.new ≡ [] → watchers.new.items ≡ watchers.old.items) }
 {
-    let mut from = 0;
     for index in 0..limit as usize {
         if index == MOST_EVENTS {
             return Err(NoMemory);
         }
-        let turned = turn(process, given, index, &mut from)?;
+        let turned = turn(process, given, index, choosers)?;
         match turned {
             None => return Ok(()),
-            Some(done) => events.push(done)?,
+            Some(done) => {
+                show(watchers, done.event, done.outcome);
+                events.push(done)?;
+            }
         }
     }
     Ok(())
 }
 
 /// How a run ended, after which this is how the process ended, if it has.
-pub(crate) fn last_of(end: Option<Outcome>, applied: usize, limit: u32) -> RunEnd
+fn last_of(end: Option<Outcome>, applied: usize, limit: u32) -> RunEnd
     ensures { result ≡ last_of end applied limit }
 {
     match end {
@@ -72,21 +94,38 @@ pub(crate) fn last_of(end: Option<Outcome>, applied: usize, limit: u32) -> RunEn
     }
 }
 
-/// Runs a process: the given events are applied, and then a step of each living thread in turn, from the least number on, with free 0 and the answer
-/// `View::fresh`. It ends where the process ends, where `limit` events were applied, or where there is none to choose. The report has each event
-/// with its outcome, in order. A run of more than 8,388,608 events answers `NoMemory`.
-pub fn run(
+/// Runs a process: the given events are applied, then what the first chooser answers. A chooser that answers `None` is dropped, and the next one takes
+/// over. After each event each watcher sees it with its outcome, in order; those that have seen enough are dropped, and the others stay in the
+/// list. It ends where the process ends, where `limit` events were applied, or where no chooser is left. The report has each event with its outcome,
+/// in order. A run of more than 8,388,608 events answers `NoMemory`, after which nothing is said of the watchers.
+pub fn run_with<C: Chooser, W: Watcher>(
     alloc: Global,
     mut process: Process,
     given: &[Event],
+    mut choosers: Vec<C>,
+    watchers: &mut Vec<W>,
     limit: u32,
 ) -> Result<Report, NoMemory>
-    ensures events { IfOk result (λ report. report.events ≡ done_of process (round_robin process given.now limit)) }
-    ensures output { IfOk result (λ report. report.output ≡ (state_after process (round_robin process given.now limit)).output) }
-    ensures last { let events = round_robin process given.now limit in IfOk result (λ report. report.last ≡ last_of (state_after process events).end (length events) limit) }
+    ensures events { IfOk result (λ report. report.events ≡ done_of process (applied report.events)) }
+    ensures output { IfOk result (λ report. report.output ≡ (state_after process (applied report.events)).output) }
+    ensures last { IfOk result (λ report. report.last ≡ last_of (state_after process (applied report.events)).end (length report.events) limit) }
+    ensures given_first { IfOk result (λ report. BeginsWith given.now (applied report.events)) }
+    ensures within { IfOk result (λ report. length report.events ≤ limit) }
+    ensures used { IfOk result (λ report. UsesGiven process given.now limit report.events) }
+    ensures chosen { IfOk result (λ report. AreChosen process given.now (map C.plan choosers.items) limit (applied report.events)) }
+    ensures watched { IfOk result (λ report. AreWatched (map W.seen watchers.old.items) report.events (map W.seen watchers.new.items)) }
+    ensures untouched { IfOk result (λ report. report.events ≡ [] → watchers.new.items ≡ watchers.old.items) }
 {
+    choosers.reverse();
     let mut events = DoneList::new(alloc);
-    apply_all(&mut process, given, limit, &mut events)?;
+    apply_all(
+        &mut process,
+        given,
+        &mut choosers,
+        watchers,
+        limit,
+        &mut events,
+    )?;
     let output = Bytes::from_slice(alloc, process.output())?;
     let last = last_of(process.ended(), events.len(), limit);
     Ok(Report {
@@ -94,4 +133,26 @@ pub fn run(
         output,
         last,
     })
+}
+
+/// The same with boxes, so that choosers and watchers of several types take part.
+pub fn run(
+    alloc: Global,
+    process: Process,
+    given: &[Event],
+    choosers: Vec<Box<dyn Chooser>>,
+    watchers: &mut Vec<Box<dyn Watcher>>,
+    limit: u32,
+) -> Result<Report, NoMemory>
+    ensures events { IfOk result (λ report. report.events ≡ done_of process (applied report.events)) }
+    ensures output { IfOk result (λ report. report.output ≡ (state_after process (applied report.events)).output) }
+    ensures last { IfOk result (λ report. report.last ≡ last_of (state_after process (applied report.events)).end (length report.events) limit) }
+    ensures given_first { IfOk result (λ report. BeginsWith given.now (applied report.events)) }
+    ensures within { IfOk result (λ report. length report.events ≤ limit) }
+    ensures used { IfOk result (λ report. UsesGiven process given.now limit report.events) }
+    ensures chosen { IfOk result (λ report. AreChosen process given.now (map (λ c. plan c) choosers.items) limit (applied report.events)) }
+    ensures watched { IfOk result (λ report. AreWatched (map (λ w. seen w) watchers.old.items) report.events (map (λ w. seen w) watchers.new.items)) }
+    ensures untouched { IfOk result (λ report. report.events ≡ [] → watchers.new.items ≡ watchers.old.items) }
+{
+    run_with(alloc, process, given, choosers, watchers, limit)
 }

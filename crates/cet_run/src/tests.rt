@@ -2,9 +2,10 @@
 ghost use Rattle.std.specs.Prelude.{◌≢◌, IfOk};
 ghost use Rattle.cet_rules.specs.Regular.{IsSegment};
 
-use crate::{Done, DoneList, Event, Outcome, Process, Report, RunEnd, run, write_run};
+use crate::{Done, DoneList, Event, Outcome, Process, Report, RunEnd, run_with, write_run};
 use bitflags::Flags;
 use cet_base::{Bytes, Failed, MemSink, NoMemory};
+use cet_choosers::{Counter, RoundRobin};
 use cet_isa::Fault;
 use cet_kernel::load;
 use cet_note::Features;
@@ -78,6 +79,19 @@ pub(crate) fn process(alloc: Global, code: &[u8], features: Features) -> Result<
     Ok(load(alloc, &image, b"")?)
 }
 
+// The run of the given events, and then of each living thread in turn.
+fn run_in_turn(
+    alloc: Global,
+    process: Process,
+    given: &[Event],
+    limit: u32,
+) -> Result<Report, NoMemory> {
+    let mut choosers = Vec::new(alloc);
+    choosers.push(RoundRobin::new())?;
+    let mut watchers: Vec<Counter> = Vec::new(alloc);
+    run_with(alloc, process, given, choosers, &mut watchers, limit)
+}
+
 // The text of a report, to an output that takes at most so many bytes in a write.
 fn text_of(alloc: Global, report: &Report, most: u64) -> Result<MemSink, Stop>
     requires { most ≢ 0 }
@@ -101,7 +115,7 @@ fn run_of(
         Features::empty()
     };
     let process = process(alloc, code, features)?;
-    text_of(alloc, &run(alloc, process, given, limit)?, 65536)
+    text_of(alloc, &run_in_turn(alloc, process, given, limit)?, 65536)
 }
 
 // 1: call 2f; ud2; 2: call 3f; 3: ret
@@ -363,7 +377,7 @@ fn outputs(rt: HostRuntime) -> Result<(), Fail> {
 #[test]
 fn a_long_loop(rt: HostRuntime) -> Result<(), Fail> {
     let process = process(rt.alloc(), LOOPS, Features::empty())?;
-    let report = run(rt.alloc(), process, &[], 20_000)?;
+    let report = run_in_turn(rt.alloc(), process, &[], 20_000)?;
     assert_eq!(rt; report.events.len(), 20_000);
     assert_eq!(rt; report.last, RunEnd::LimitReached);
     let event = Event::Step {

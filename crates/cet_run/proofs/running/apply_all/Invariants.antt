@@ -1,9 +1,12 @@
-use Rattle.std.proofs.Common.{◌-◌}
-use Rattle.cet_run.specs.Report.{round_robin}
-use Rattle.cet_run.specs.Turn.{rest}
-use Rattle.cet_run.proofs.Choices.{Progress}
+use Rattle.std.proofs.Common.{◌≡◌, [], map, reverse}
+use Rattle.cet_run.specs.Run.{AreWatched}
+use Rattle.cet_run.proofs.Runs.{Progress}
 use Rattle.cet_run.proofs.running.apply_all.Given as goal
 
--- the events before the index are done, and the others are to come
+-- the events before the index are done and were seen, and the others are to come
 abbrev pub invariant-loop-index : goal.invariant-loop-index
-invariant-loop-index l = Progress l.fn.process (round_robin l.fn.process l.given l.limit) l.process (rest l.process l.given l.index l.from (l.limit - l.index)) l.events
+invariant-loop-index g l = record {
+  run : Progress l.fn.process l.given (map g.C.Chooser.plan (reverse l.fn.choosers.items)) l.limit l.process (map g.C.Chooser.plan (reverse l.choosers.items)) l.events l.index;
+  watched : AreWatched (map g.W.Watcher.seen l.fn.watchers.items) l.events (map g.W.Watcher.seen l.watchers.items);
+  untouched : l.events ≡ [] → l.watchers.items ≡ l.fn.watchers.items;
+}

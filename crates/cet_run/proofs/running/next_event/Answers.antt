@@ -1,7 +1,7 @@
 use Rattle.std.proofs.Common.{sym}
 use Rattle.std.proofs.lemmas.Bool.{ltb-true, ltb-false}
-use Rattle.cet_run.proofs.BoxChoices.{given_chosen, box_chosen}
-use Rattle.cet_run.proofs.boxes.next_event.Goals as goal
+use Rattle.cet_run.proofs.Choices.{given_chosen, box_chosen}
+use Rattle.cet_run.proofs.running.next_event.Goals as goal
 
 pub returns-in-Some : goal.returns-in-Some
 returns-in-Some g c =

@@ -1,5 +1,5 @@
-use Rattle.cet_run.proofs.BoxRun.{given_used, turned_round, chosen_by}
-use Rattle.cet_run.proofs.boxes.run_with.Goals as goal
+use Rattle.cet_run.proofs.Runs.{given_used, turned_round, chosen_by}
+use Rattle.cet_run.proofs.running.run_with.Goals as goal
 
 pub returns-clause-used : goal.returns-clause-used
 returns-clause-used g c = given_used c.args.process c.args.given.now _ c.args.limit _ _ c.in_ok-apply_all.ensures.run

@@ -12,8 +12,8 @@ use Rattle.cet_choosers.specs.Watching.{Seen, Pair, Shows, watched}
 use Rattle.cet_choosers.proofs.Watched.{shown_first, shown_more}
 use Rattle.cet_run.specs.declared.report.Done.{Done}
 use Rattle.cet_run.specs.Report.{done}
-use Rattle.cet_run.specs.Boxes.{applied, BeginsWith, AreChosen, AreWatched, UsesGiven, IsRun}
-use Rattle.cet_run.specs.BoxTurn.{Told, NoTurn, OneTurn, BoxTurns}
+use Rattle.cet_run.specs.Run.{applied, BeginsWith, AreChosen, AreWatched, UsesGiven, IsRun}
+use Rattle.cet_run.specs.Turn.{Told, NoTurn, OneTurn, Turns}
 
 -- ---- lists of events
 
@@ -199,12 +199,12 @@ not_quiet dones more d xs ys gain nil =
     let one = length_push dones d in
     absurd (omega arith)
 
-pub some_turn : (P T : State) (given : List Event) (index : ℕ) (now next : List (Option Plan)) (o : Option Done) (d : Done) → o ≡ Some d → BoxTurns P T given index now next o
+pub some_turn : (P T : State) (given : List Event) (index : ℕ) (now next : List (Option Plan)) (o : Option Done) (d : Done) → o ≡ Some d → Turns P T given index now next o
     → OneTurn P T given index now next d
-some_turn P T given index now next o d is turns = subst (λ (x : Option Done). BoxTurns P T given index now next x) is turns
+some_turn P T given index now next o d is turns = subst (λ (x : Option Done). Turns P T given index now next x) is turns
 
-pub no_turn : (P T : State) (given : List Event) (index : ℕ) (now next : List (Option Plan)) (o : Option Done) → o ≡ None → BoxTurns P T given index now next o → NoTurn P T given index now
-no_turn P T given index now next o is turns = subst (λ (x : Option Done). BoxTurns P T given index now next x) is turns
+pub no_turn : (P T : State) (given : List Event) (index : ℕ) (now next : List (Option Plan)) (o : Option Done) → o ≡ None → Turns P T given index now next o → NoTurn P T given index now
+no_turn P T given index now next o is turns = subst (λ (x : Option Done). Turns P T given index now next x) is turns
 
 -- a run of which this is the state after it
 pub given_used : (S : State) (given : List Event) (told : List (Option Plan)) (limit : ℕ) (T : State) (dones : List Done) → IsRun S given told limit T dones → UsesGiven S given limit dones
