@@ -1,6 +1,4 @@
 pub use Rattle.cet_rules.specs.First
-pub use Rattle.cet_rules.specs.Raw
 pub use Rattle.cet_rules.specs.Report
 pub mod Breach
-pub mod Fetch
 pub mod Survey

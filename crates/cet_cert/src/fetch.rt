@@ -1,27 +1,17 @@
-//! The bytes of an image by address, and the instruction that stands there.
-ghost use Rattle.std.specs.Prelude.{◌≡◌, ℕ, ◌+◌, ◌-◌, ◌^◌, ◌<◌, ◌≤◌, [], length, min, find, slice_index, MatchOption, IfSome};
-ghost use Rattle.std.specs.Option.{option_copied};
+//! The instruction that stands at an address.
+ghost use Rattle.std.specs.Prelude.{◌≡◌, ℕ, ◌+◌, ◌-◌, ◌^◌, ◌<◌, ◌≤◌, length, min, slice_index, IfSome};
 ghost use Rattle.cet_isa.specs.Decoded.{decoded};
 ghost use Rattle.cet_isa.specs.Form.{IsBytes};
-ghost use Rattle.cet_rules.specs.Image.{lies_in, bytes_from, byte_at, end_of, code_from};
+ghost use Rattle.cet_rules.specs.Image.{end_of, code_from};
 ghost use Rattle.cet_rules.specs.Piece.{instruction_at};
-ghost use Rattle.cet_cert.specs.Fetch.{IsSegmentAt};
 
 use cet_decode::{DecodeError, decode};
+use cet_image::{byte_or_zero, segment_at};
 use cet_isa::Insn;
-use cet_rules::{Covered, Function, Image, Segment};
+use cet_rules::{Covered, Function, Image};
 
 /// No form is longer (SDM volume 2, 2.3.11).
 const LONGEST_FORM: u64 = 15;
-
-/// The byte at `at`, or none outside every segment.
-pub fn byte_at(image: &Image, at: u64) -> Option<u8>
-    ensures { result ≡ byte_at image.now at }
-{
-    let segment = segment_at(image, at)?;
-    let stored = segment.bytes.as_slice();
-    Some(byte_or_zero(stored, (at - segment.start) as usize))
-}
 
 /// The covered instruction whose form stands at `at` within the function, and its length in bytes.
 pub fn instruction_at(image: &Image, function: &Function, at: u64) -> Option<(Covered, u8)>
@@ -55,25 +45,6 @@ fn decode_window(window: &[u8]) -> Result<(Insn, u8), DecodeError>
     ensures bytes { IsBytes window.now }
 {
     decode(window)
-}
-
-fn find_segment(image: &Image, at: u64) -> Option<&Segment>
-    ensures { option_copied result ≡ find (lies_in at) image.now.segments }
-{
-    image.segments.as_slice().iter().find(|segment| segment.start <= at
-        && at - segment.start < segment.size)
-}
-
-fn segment_at(image: &Image, at: u64) -> Option<&Segment>
-    ensures { MatchOption result (bytes_from image.now.segments at ≡ []) (λ s. IsSegmentAt image.now at s.now) }
-{
-    find_segment(image, at)
-}
-
-fn byte_or_zero(stored: &[u8], offset: usize) -> u8
-    ensures { result ≡ slice_index stored.now offset }
-{
-    stored.get(offset).copied().unwrap_or(0)
 }
 
 // The bytes of the function from `at` on, as far as the longest form goes.

@@ -1,13 +1,11 @@
-//! The certifier: the verdict on an image, and the image of raw code.
-//! `certify` meets `IsFirst`, `raw_image` meets `IsRaw`, and `write_report` writes `report` of the verdict; these stand in the
-//! `specs/` of `cet_rules`.
+//! The certifier: the verdict on an image.
+//! `certify` meets `IsFirst`, and `write_report` writes `report` of the verdict; these stand in the `specs/` of `cet_rules`.
 #![tactic(auto)]
 
 mod breach;
 mod certifier;
 mod fetch;
 mod pieces;
-mod raw;
 mod report;
 mod rules;
 mod survey;
@@ -16,9 +14,8 @@ pub use certifier::certify;
 pub use cet_rules::{
     Covered, Function, FunctionList, Image, Piece, PieceKind, Segment, SegmentList, Verdict,
 };
-pub use fetch::{byte_at, instruction_at};
+pub use fetch::instruction_at;
 pub use pieces::{piece_at, prologue_end};
-pub use raw::{ImageError, RAW_START, raw_image};
 pub use report::write_report;
 
 #[cfg(test)]

@@ -1,9 +1,10 @@
 //! Each public call with ample memory, at verdicts that the rules give by hand.
 use crate::{
-    Covered, ImageError, Piece, PieceKind, Verdict, byte_at, certify, instruction_at, piece_at,
-    prologue_end, raw_image, write_report,
+    Covered, Piece, PieceKind, Verdict, certify, instruction_at, piece_at, prologue_end,
+    write_report,
 };
 use cet_base::{MemSink, NoMemory};
+use cet_image::{ImageError, raw_image};
 use std::alloc::Global;
 use std::test::Fail;
 
@@ -109,31 +110,6 @@ fn verdicts(rt: HostRuntime) -> Result<(), Fail> {
     ];
     for (code, expected) in rows {
         assert_eq!(rt; verdict(rt.alloc(), code)?, expected, "{code:?}");
-    }
-    Ok(())
-}
-
-#[test]
-fn images_of_raw_code(rt: HostRuntime) -> Result<(), Fail> {
-    let alloc = rt.alloc();
-    assert_eq!(rt; raw_image(alloc, b"").err(), Some(ImageError::Empty));
-    let mut code = Vec::new(alloc);
-    code.resize(16_777_217, 0x90)?;
-    assert_eq!(rt;
-        raw_image(alloc, &code).err(),
-        Some(ImageError::Range { at: 0x401000 })
-    );
-    let image = raw_image(
-        alloc,
-        b"\xf3\x0f\x1e\xfa\xb8\x00\x10\x40\x00\xff\xe0\x0f\x0b",
-    )?;
-    for (at, byte) in [
-        (0x400fff, None),
-        (0x401000, Some(0xf3)),
-        (0x40100c, Some(0x0b)),
-        (0x40100d, None),
-    ] {
-        assert_eq!(rt; byte_at(&image, at), byte);
     }
     Ok(())
 }

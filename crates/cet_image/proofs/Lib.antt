@@ -3,3 +3,4 @@ pub mod Named
 pub mod LayoutLemmas
 pub mod Places
 pub mod OneList
+pub mod SegmentBytes

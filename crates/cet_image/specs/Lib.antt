@@ -1,3 +1,5 @@
+pub use Rattle.cet_rules.specs.Raw
+pub mod Contents
 pub mod Executable
 pub mod Faults
 pub mod ImageOf

@@ -15,7 +15,7 @@ const MOST_SEGMENTS: usize = 16;
 const MOST_FUNCTIONS: usize = 65536;
 
 /// The most bytes of a segment.
-const LONGEST_SEGMENT: u64 = 16_777_216;
+pub const LONGEST_SEGMENT: u64 = 16_777_216;
 
 /// Where the user's half of a canonical address space ends (SDM volume 1, 3.3.7.1).
 const ADDRESS_END: u64 = 1 << 47;

@@ -2,7 +2,9 @@
 
 ghost use Rattle.std.specs.Prelude.{◌≤◌, length, IsTrue, All};
 
-use crate::{FuncId, Function, Image, ImageError, Segment, function_at, image_of};
+use crate::{
+    FuncId, Function, Image, ImageError, Segment, byte_at, function_at, image_of, raw_image,
+};
 use bitflags::Flags;
 use cet_base::{Bytes, NoMemory, Span, Text};
 use cet_elf::{Bind, Exec, ExecSegment, ExecSegmentList, ExecSymbol, ExecSymbolList, SymbolKind};
@@ -433,6 +435,31 @@ fn a_whole_image(rt: HostRuntime) -> Result<(), Fail> {
     assert_eq!(rt; image.features.bits(), Features::all().bits());
     for (at, function) in PLACES {
         assert_eq!(rt; function_at(&image, at), function);
+    }
+    Ok(())
+}
+
+#[test]
+fn images_of_raw_code(rt: HostRuntime) -> Result<(), Fail> {
+    let alloc = rt.alloc();
+    assert_eq!(rt; raw_image(alloc, b"").err(), Some(ImageError::Empty));
+    let mut code = Vec::new(alloc);
+    code.resize(16_777_217, 0x90)?;
+    assert_eq!(rt;
+        raw_image(alloc, &code).err(),
+        Some(ImageError::Range { at: 0x401000 })
+    );
+    let image = raw_image(
+        alloc,
+        b"\xf3\x0f\x1e\xfa\xb8\x00\x10\x40\x00\xff\xe0\x0f\x0b",
+    )?;
+    for (at, byte) in [
+        (0x400fff, None),
+        (0x401000, Some(0xf3)),
+        (0x40100c, Some(0x0b)),
+        (0x40100d, None),
+    ] {
+        assert_eq!(rt; byte_at(&image, at), byte);
     }
     Ok(())
 }

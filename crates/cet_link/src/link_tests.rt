@@ -185,6 +185,81 @@ const BOTH: &[u8] = b"\x04\0\0\0\x10\0\0\0\x05\0\0\0GNU\0\x02\0\0\xc0\x04\0\0\0\
 
 const IBT: &[u8] = b"\x04\0\0\0\x10\0\0\0\x05\0\0\0GNU\0\x02\0\0\xc0\x04\0\0\0\x01\0\0\0\0\0\0\0";
 
+// The entry and no more, with a note and without one.
+const MAIN_CODE: &[SectionRow] = &[SectionRow {
+    class: Class::Code,
+    align: 1,
+    size: 2,
+    relocations: &[],
+}];
+
+const MAIN_SYMBOLS: &[SymbolRow] = &[(
+    b"_start",
+    SymbolKind::Func,
+    Bind::Global,
+    SymbolPlace::In(0),
+    0,
+)];
+
+const MAIN: Sample = Sample {
+    sections: MAIN_CODE,
+    symbols: MAIN_SYMBOLS,
+    note: Some(BOTH),
+};
+
+const SILENT_MAIN: Sample = Sample {
+    sections: MAIN_CODE,
+    symbols: MAIN_SYMBOLS,
+    note: None,
+};
+
+// A note and no more.
+const CLAIMS_BOTH: Sample = Sample {
+    sections: &[],
+    symbols: &[],
+    note: Some(BOTH),
+};
+
+const CLAIMS_IBT: Sample = Sample {
+    sections: &[],
+    symbols: &[],
+    note: Some(IBT),
+};
+
+const CLAIMS_NOTHING: Sample = Sample {
+    sections: &[],
+    symbols: &[],
+    note: None,
+};
+
+const MAIN_SEGMENT: SegmentRow = SegmentRow {
+    start: 0x401000,
+    size: 2,
+    flags: 5,
+    bytes: b"\0\0",
+};
+
+const BOTH_SEGMENT: SegmentRow = SegmentRow {
+    start: 0x402000,
+    size: 32,
+    flags: 4,
+    bytes: BOTH,
+};
+
+const IBT_SEGMENT: SegmentRow = SegmentRow {
+    start: 0x402000,
+    size: 32,
+    flags: 4,
+    bytes: IBT,
+};
+
+const MAIN_SYMBOL: ValueRow = ValueRow {
+    name: b"_start",
+    kind: SymbolKind::Func,
+    bind: Bind::Global,
+    value: 0x401000,
+};
+
 const ROWS: &[Row] = &[
     // Every type of relocation; `w` is the global one, 0x401014; local symbols that are named alike.
     Row {
@@ -336,6 +411,41 @@ const ROWS: &[Row] = &[
             bind: Bind::Global,
             value: 0x401001,
         }],
+        notes: None,
+    },
+    // Five inputs. All claim both features; one claims one of them; one claims none; all claim none.
+    Row {
+        inputs: &[MAIN, CLAIMS_BOTH, CLAIMS_BOTH, CLAIMS_BOTH, CLAIMS_BOTH],
+        entry: 0x401000,
+        segments: &[MAIN_SEGMENT, BOTH_SEGMENT],
+        symbols: &[MAIN_SYMBOL],
+        notes: Some(BOTH),
+    },
+    Row {
+        inputs: &[MAIN, CLAIMS_BOTH, CLAIMS_BOTH, CLAIMS_IBT, CLAIMS_BOTH],
+        entry: 0x401000,
+        segments: &[MAIN_SEGMENT, IBT_SEGMENT],
+        symbols: &[MAIN_SYMBOL],
+        notes: Some(IBT),
+    },
+    Row {
+        inputs: &[MAIN, CLAIMS_BOTH, CLAIMS_BOTH, CLAIMS_BOTH, CLAIMS_NOTHING],
+        entry: 0x401000,
+        segments: &[MAIN_SEGMENT],
+        symbols: &[MAIN_SYMBOL],
+        notes: None,
+    },
+    Row {
+        inputs: &[
+            SILENT_MAIN,
+            CLAIMS_NOTHING,
+            CLAIMS_NOTHING,
+            CLAIMS_NOTHING,
+            CLAIMS_NOTHING,
+        ],
+        entry: 0x401000,
+        segments: &[MAIN_SEGMENT],
+        symbols: &[MAIN_SYMBOL],
         notes: None,
     },
 ];

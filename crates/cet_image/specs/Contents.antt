@@ -1,4 +1,4 @@
--- What is found of an image's bytes.
+-- The bytes of an image by their address.
 use Rattle.std.specs.Prelude.{◌≡◌, ℕ, ◌+◌, ◌-◌, ◌<◌, ◌≤◌, ◌^◌, drop, length}
 use Rattle.cet_rules.specs.declared.segment.Segment.{Segment}
 use Rattle.cet_rules.specs.declared.image.Image.{Image}

@@ -1,6 +1,6 @@
 use Rattle.std.proofs.Common.{ℕ, List, ◌-◌, get_or, Some, ap, sym, ◌∙◌}
-use Rattle.cet_cert.proofs.Bytes.{byte_found}
-use Rattle.cet_cert.proofs.fetch.byte_at.Goals as goal
+use Rattle.cet_image.proofs.SegmentBytes.{byte_found}
+use Rattle.cet_image.proofs.contents.byte_at.Goals as goal
 
 pub returns : goal.returns
 returns c =

@@ -1,7 +1,7 @@
 -- All the features that have names are both of them.
 use Rattle.std.proofs.Common.{rules, refl}
 use Rattle.bitflags.proofs.OnLiterals.{bitflags_on_literals}
-use Rattle.cet_cert.proofs.raw.load.Goals as goal
+use Rattle.cet_image.proofs.raw.load.Goals as goal
 
 pub returns : goal.returns
 unfolding bitflags_on_literals
