@@ -1,5 +1,5 @@
 -- The pieces of a function: what stands at them, that they begin at positions, and where one follows another.
-use Rattle.std.proofs.Common.{◌≡◌, ℕ, ◌+◌, ◌<◌, ◌≤◌, ◌⊎◌, inl, inr, ⊎_elim, Some, None, Option, refl, sym, ap, ◌∙◌, subst, arith}
+use Rattle.std.proofs.Common.{◌≡◌, ℕ, ◌+◌, ◌<◌, ◌≤◌, ◌⊎◌, ⊎_elim, Some, None, Option, refl, sym, ap, ◌∙◌, subst, arith}
 use Rattle.std.proofs.lemmas.Bool.{cases_lt}
 use Rattle.cet_rules.specs.declared.covered.Covered.{Covered}
 use Rattle.cet_rules.specs.declared.covered.Covered.TheVariants.{EndBr64, MovEax, JmpRax}
@@ -9,12 +9,8 @@ use Rattle.cet_rules.specs.declared.piece.Piece.{Piece}
 use Rattle.cet_rules.specs.declared.piece.PieceKind.TheVariants.{ConstJump, Single}
 use Rattle.cet_rules.specs.Image.{end_of}
 use Rattle.cet_rules.specs.Piece.{instruction_at, IsPosition, IsCut, IsPiece, IsPieceStart, IsPrologue, GoesOn, last_position, prologue_end_by, piece_at, piece_by, piece_of, single}
-use Rattle.cet_rules.specs.Rule.{BrokenIn}
-use Rattle.cet_invariant.proofs.Fetched.{instruction_within}
-
--- the function breaks no rule
-abbrev pub Keeps : Image → Function → Type 0
-Keeps image f = (rule a : ℕ) → BrokenIn image f rule a → ⊥
+use Rattle.cet_invariant.specs.Kept.{KeepsRulesIn}
+use Rattle.cet_invariant.proofs.Instructions.{instruction_within}
 
 -- what stands at a piece that begins at a: one instruction, or a constant jump's two
 pub data Standing (image : Image) (f : Function) (a : ℕ) (p : Piece) : Type 0 where
@@ -72,17 +68,17 @@ piece_starts image f a p cut e =
     (p, record { cut = rw at cut; stands = subst (λ (b : ℕ). piece_at image f b ≡ Some p) (sym at) e }, at)
 
 -- an address inside the function that the cutting comes to is the start of a piece, where an instruction stands at each position
-pub cut_is_piece_start : (image : Image) (f : Function) (a : ℕ) → Keeps image f → IsCut image f a → a < end_of f → IsPieceStart image f a
+pub cut_is_piece_start : (image : Image) (f : Function) (a : ℕ) → KeepsRulesIn image f → IsCut image f a → a < end_of f → IsPieceStart image f a
 cut_is_piece_start image f a keeps cut within = of_instruction (instruction_at image f a) refl
   where
     of_instruction : (o : Option (Covered × ℕ)) → instruction_at image f a ≡ o → IsPieceStart image f a
-    of_instruction None e = absurd (keeps 6 a (inl (refl, (cut_is_position image f cut within, e))))
+    of_instruction None e = absurd (keeps.instructions a (cut_is_position image f cut within, e))
     of_instruction (Some (i, n)) e = piece_starts image f a (piece_of a i n (instruction_at image f (a + n))) cut (rw e refl)
 
 -- where execution goes on after a piece, another one starts
-pub goes_on : (image : Image) (f : Function) (p : Piece) → Keeps image f → (IsPiece image f p ⊎ IsPrologue image f p) → GoesOn p.kind → IsCut image f p.next → p.next ≤ end_of f → IsPieceStart image f p.next
+pub goes_on : (image : Image) (f : Function) (p : Piece) → KeepsRulesIn image f → (IsPiece image f p ⊎ IsPrologue image f p) → GoesOn p.kind → IsCut image f p.next → p.next ≤ end_of f → IsPieceStart image f p.next
 goes_on image f p keeps which goes cut within =
     ⊎_elim
     (λ below. cut_is_piece_start image f p.next keeps cut below)
-    (λ above. absurd (keeps 11 (last_position p) (inr (inr (inl (refl, (p, which, goes, omega arith, refl)))))))
+    (λ above. absurd (keeps.last_piece (last_position p) (p, which, goes, omega arith, refl)))
     (cases_lt p.next (end_of f))

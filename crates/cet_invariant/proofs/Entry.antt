@@ -7,7 +7,7 @@ use Rattle.cet_rules.specs.Regular.{IsFunction}
 use Rattle.cet_rules.specs.Image.{function_at}
 use Rattle.cet_rules.specs.Rule.{Leaves, IsWrongEntry}
 use Rattle.cet_rules.specs.First.{KeepsRules}
-use Rattle.cet_invariant.proofs.Cuts.{Keeps}
+use Rattle.cet_invariant.specs.Kept.{KeepsRulesIn}
 
 same : (x f : Function) → Some x ≡ Some f → x ≡ f
 same x f e = cc
@@ -26,8 +26,18 @@ pub record IsEntered (image : Image) (f : Function) : Type 0 where
   pub at : function_at image image.entry ≡ Some f
   pub start : f.start ≡ image.entry
   pub regular : IsFunction f
-  pub keeps : Keeps image f
+  pub keeps : KeepsRulesIn image f
   pub stays : Leaves image f → ⊥
+
+-- a function of the image keeps the rules
+kept_in : (image : Image) (f : Function) → KeepsRules image → Contains image.functions f → KeepsRulesIn image f
+kept_in image f keeps contains = record {
+  instructions = λ a broken. absurd (keeps 6 a (inr (f, contains, inl (refl, broken))));
+  jumps = λ a broken. absurd (keeps 8 a (inr (f, contains, inr (inl (refl, broken)))));
+  last_piece = λ a broken. absurd (keeps 11 a (inr (f, contains, inr (inr (inl (refl, broken))))));
+  entries = λ a broken. absurd (keeps 18 a (inr (f, contains, inr (inr (inr (inl (refl, broken)))))));
+  branches = λ a broken. absurd (keeps 19 a (inr (f, contains, inr (inr (inr (inr (refl, broken)))))));
+}
 
 pub entered : (image : Image) (f : Function) → KeepsRules image → function_at image image.entry ≡ Some f → IsEntered image f
 entered image f keeps e =
@@ -37,7 +47,7 @@ entered image f keeps e =
       at = e;
       start = eqb-true f.start image.entry place.2;
       regular = image.functions_regular.each place.0 f place.1;
-      keeps = λ rule a broken. keeps rule a (inr (f, contains, broken));
+      keeps = kept_in image f keeps contains;
       stays = λ leaves. keeps 5 image.entry (inl (refl, refl, subst (IsWrongEntry image) (sym e) leaves));
     }
 

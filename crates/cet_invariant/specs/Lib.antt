@@ -1,1 +1,3 @@
-pub mod Sound
+pub mod Kept
+pub mod Standing
+pub mod Contexts
