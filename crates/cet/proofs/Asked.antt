@@ -2,7 +2,8 @@
 use Rattle.std.proofs.Common.{◌≡◌, ◌∙◌, ℕ, List, [], Option, Some, codes, get_or, sym, ap, arith, length, ◌<◌, ◌^◌, refl, Bool, true, false, IsTrue, ◌↔◌}
 use Rattle.std.specs.Prelude.{slice_get}
 use Rattle.std.proofs.lemmas.Option.{get_or_from_slice_get}
-use Rattle.cet.specs.Command.{Command, CheckRaw, Asm, Dis, Notes, Run, Link, Asks, AreRefused}
+use Rattle.cet_verbs.specs.Command.{Command, CheckRaw, Asm, Dis, Notes, Run, Link}
+use Rattle.cet.specs.Command.{Asks, AreRefused}
 use Rattle.cet.specs.Words.{IsNumber}
 
 -- the first letter of the first word

@@ -6,7 +6,7 @@ use Rattle.std.specs.String.{string_bytes}
 use Rattle.std.proofs.lemmas.List.{length-map}
 use Rattle.clap.specs.Words.{App, Row, Text, first_of, all_of, one_of, matches_of, fault_of}
 use Rattle.cet.specs.Command.{texts}
-use Rattle.cet.specs.Words.{AreTaken, IsNumber, IsNumberIn, value_in, values_in}
+use Rattle.cet.specs.Words.{AreTaken, IsNumber, IsNumberIn, IsPlain, value_in, values_in}
 
 pub taken_by : (app made : App) (words : List (String Global)) → made ≡ app → length words < 2 ^ 32 → slice_get (texts words) 0 ≡ Some app.top.name
     → fault_of made (texts words) ≡ [] → AreTaken app (texts words)
@@ -38,3 +38,13 @@ pub number_given : (app made : App) (words : List Text) (rows : List Row) (id : 
     → IsNumberIn app words id n → IsNumber (one_of id rows) n
 number_given app made words rows id n is found given =
     subst (λ (rs : List Row). IsNumber (one_of id rs) n) (sym (found ∙ ap (λ (a : App). matches_of a words) is)) given
+
+pub plain_found : (app made : App) (words : List Text) (rows : List Row) (id : Text) → made ≡ app → rows ≡ matches_of made words
+    → IsPlain (first_of id rows) → IsPlain (value_in app words id)
+plain_found app made words rows id is found plain =
+    subst (λ (rs : List Row). IsPlain (first_of id rs)) (found ∙ ap (λ (a : App). matches_of a words) is) plain
+
+pub plain_given : (app made : App) (words : List Text) (rows : List Row) (id : Text) → made ≡ app → rows ≡ matches_of made words
+    → IsPlain (value_in app words id) → IsPlain (first_of id rows)
+plain_given app made words rows id is found plain =
+    subst (λ (rs : List Row). IsPlain (first_of id rs)) (sym (found ∙ ap (λ (a : App). matches_of a words) is)) plain

@@ -1,16 +1,4 @@
-pub mod NameLemmas
 pub mod Asked
 pub mod FoundLemmas
 pub mod NumberLemmas
-pub mod Reports
-pub mod Checked
-pub mod Pairs
-pub mod StepLemmas
-pub mod TextLemmas
-pub mod RunSteps
-pub mod LinkFaults
-pub mod LinkSteps
-pub mod Features
-pub mod Executables
-pub mod Ran
-pub mod Refusals
+pub mod Certified

@@ -4,7 +4,7 @@ use Rattle.std.specs.Prelude.{IfSome, IfNone}
 use Rattle.std.specs.Str.Parse.{ParsesUnsigned, ExplainsUnsignedError, HasUnsignedDigitsIfOk}
 use Rattle.std.specs.declared.num.ParseIntError.{ParseIntError}
 use Rattle.clap.specs.Words.{ReadsOne}
-use Rattle.cet.specs.Words.{IsNumber}
+use Rattle.cet.specs.Words.{IsNumber, IsPlain}
 
 -- how a text is read as a `u32`
 abbrev Gives : List ℕ → Result ℕ ParseIntError → Type 0
@@ -24,3 +24,8 @@ no_number_read (Some s) value None is none some = λ n number.
     let error = some s refl in
     let one : s ≡ number.0 = cc (is, number.1) in
     error.1.0 (rw one number.2, rw (one, number.3) number.4)
+
+-- where there is no number, there is none with a plain text
+pub none_plain : (r : Option ℕ) (value shown : Option (List ℕ)) → IfNone r ((n : ℕ) → IsNumber value n → ⊥) → IfNone r ((n : ℕ) → IsNumber value n → IsPlain shown → ⊥)
+none_plain (Some n) value shown none = tt
+none_plain None value shown none = λ n number plain. none n number

@@ -2,11 +2,4 @@ pub mod Words
 pub mod Command
 pub mod Named
 pub mod Text
-pub mod Held
-pub mod Notes
-pub mod Runs
-pub mod Links
-pub mod Unfit
-pub mod Steps
-pub mod Answer
-pub mod Refused
+pub mod Certified

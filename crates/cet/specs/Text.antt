@@ -1,11 +1,7 @@
--- The lines on standard error.
-use Rattle.std.specs.Prelude.{ℕ, List, ◌++◌, codes}
+-- The line on standard error of words that are no command.
+use Rattle.std.specs.Prelude.{ℕ, List, codes}
 use Rattle.cet_base.specs.Text.{line}
 
 -- the words are no command
 abbrev pub words_line : List ℕ
 words_line = line (codes "cet: words")
-
--- the file of this name could not be read
-abbrev pub file_line : List ℕ → List ℕ
-file_line name = line (codes "cet: file " ++ name)

@@ -1,5 +1,5 @@
 -- What the command of each verb takes, as `clap` reads a simple command, and what it finds in the words.
-use Rattle.std.specs.Prelude.{◌≡◌, ℕ, length, ◌<◌, ◌^◌, pos, true, List, [], ◌∷◌, Option, Some, slice_get, codes}
+use Rattle.std.specs.Prelude.{◌≡◌, ℕ, length, ◌<◌, ◌≤◌, ◌^◌, IsSomeAnd, pos, true, List, [], ◌∷◌, Option, Some, slice_get, codes}
 use Rattle.std.specs.Str.Parse.{IsNumeral, digits_value, without_leading_plus}
 use Rattle.clap.specs.Words.{App, Rule, Text, new_rule, first_of, all_of, one_of, matches_of, fault_of}
 use Rattle.clap.specs.Simple.{new_shape}
@@ -86,6 +86,10 @@ IsGiven app words id = value_in app words id ≡ Some (codes "true")
 abbrev pub IsNumber : Option Text → ℕ → Type 0
 IsNumber value number = (text : Text) × (value ≡ Some text)
     × IsNumeral 10 (without_leading_plus text) × (digits_value 10 (without_leading_plus text) ≡ number) × (number < 2 ^ 32)
+
+-- the text of a number begins with a digit other than 0: it has no sign and no leading zero
+abbrev pub IsPlain : Option Text → Type 0
+IsPlain value = IsSomeAnd value (λ text. IsSomeAnd (slice_get text 0) (λ c. (49 ≤ c) × (c ≤ 57)))
 
 -- the value by this id is decimal for the number
 abbrev pub IsNumberIn : App → List Text → Text → ℕ → Type 0

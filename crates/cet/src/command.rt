@@ -1,24 +1,27 @@
 //! The command that the words ask for.
 
-ghost use Rattle.std.specs.Prelude.{◌≡◌, ◌<◌, ◌^◌, ℕ, List, Some, slice_get, length, codes, IfOk, IfErr};
-ghost use Rattle.cet_base.specs.Sink.{Gains};
+ghost use Rattle.std.specs.Prelude.{◌≡◌, ◌<◌, ◌^◌, ℕ, List, Some, slice_get, length, map, codes, IfOk, IfErr};
+ghost use Rattle.cet_base.specs.Sink.{Gains, GainsPart};
 ghost use Rattle.cet.specs.Command.{Asks, AreRefused, texts};
 ghost use Rattle.cet.specs.Named.{named};
-ghost use Rattle.cet.specs.Answer.{IsReport, LeavesWith};
-ghost use Rattle.cet.specs.Refused.{HasCause, LeavesRefused};
+ghost use Rattle.cet_verbs.specs.Command.{RunsNothing};
+ghost use Rattle.cet_verbs.specs.Answer.{IsReport, LeavesWith};
+ghost use Rattle.cet_verbs.specs.Refused.{HasCause, IsBeforeRun, LeavesRefused};
+ghost use Rattle.cet_verbs.specs.Watchers.{AreWatchersOf};
 
-use crate::asm::asm;
-use crate::check_raw::check_raw;
-use crate::dis::dis;
-use crate::found::{NoCommand, find, is_given, number, value, values};
-use crate::link::{LinkRequest, link};
-use crate::notes::notes;
-use crate::refusal::Refusal;
-use crate::run::{RunRequest, run};
+use crate::found::{NoCommand, find, is_given, plain_number, value, values};
 use crate::words::{
     asm_command, check_command, dis_command, link_command, notes_command, run_command,
 };
 use cet_base::{Files, Sink};
+use cet_choosers::{Chooser, Watcher};
+use cet_verbs::Refusal;
+use cet_verbs::asm::asm;
+use cet_verbs::check_raw::check_raw;
+use cet_verbs::dis::dis;
+use cet_verbs::link::{LinkRequest, link};
+use cet_verbs::notes::notes;
+use cet_verbs::run::{RunRequest, run};
 use std::alloc::Global;
 
 /// A command, with the words that name its files.
@@ -110,7 +113,7 @@ fn read_run<'a>(alloc: Global, words: &'a [String]) -> Result<Command<'a>, NoCom
     let Some(file) = value(&found, "file") else {
         return Err(NoCommand::Refused);
     };
-    let Some(limit) = number(&found, "limit") else {
+    let Some(limit) = plain_number(&found, "limit") else {
         return Err(NoCommand::Refused);
     };
     Ok(Command::Run(RunRequest {
@@ -165,19 +168,28 @@ impl<'a> Command<'a> {
         }
     }
 
-    /// Carries the command out: its report goes to the output.
-    pub fn run<F: Files, O: Sink>(
+    /// Carries the command out: its report goes to the output. Choosers and watchers are those of a run.
+    pub fn run<F: Files, O: Sink, C: Chooser, W: Watcher>(
         self,
         alloc: Global,
         files: &mut F,
         out: &mut O,
+        choosers: Vec<C>,
+        watchers: &mut Vec<W>,
     ) -> Result<u8, Refusal<'a>>
         ensures left { IfOk result (λ status. LeavesWith status (F.contents files.old) (F.contents files.new) (named self.entry)) }
         ensures left_refused { IfErr result (LeavesRefused (F.contents files.old) (F.contents files.new)) }
         ensures reported { IfOk result (λ status. (text : List ℕ) × Gains (O.bytes out.old) (O.bytes out.new) text
-            × IsReport (F.contents files.old) (named self.entry) status text) }
+            × IsReport (F.contents files.old) (map C.plan choosers.items) (named self.entry) status text) }
+        ensures watched { IfOk result (λ status. AreWatchersOf (F.contents files.old) (map C.plan choosers.items) (named self.entry)
+            (Gains (O.bytes out.old) (O.bytes out.new)) W.seen watchers.old.items watchers.new.items) }
+        ensures watched_cut_off { IfErr result (λ refusal. refusal ≡ Refusal.Unwritten → AreWatchersOf (F.contents files.old) (map C.plan choosers.items) (named self.entry)
+            (GainsPart (O.bytes out.old) (O.bytes out.new)) W.seen watchers.old.items watchers.new.items) }
+        ensures watchers_stay { IfErr result (λ refusal. IsBeforeRun refusal → watchers.new.items ≡ watchers.old.items) }
+        ensures watchers_unused { RunsNothing (named self.entry) → watchers.new.items ≡ watchers.old.items }
         ensures refused { IfErr result (HasCause (record {
           files = F.contents files.old;
+          plans = map C.plan choosers.items;
           faults_before = F.faults files.old;
           faults_after = F.faults files.new;
           out_before = O.bytes out.old;
@@ -191,7 +203,7 @@ impl<'a> Command<'a> {
             Command::Asm(to, file) => asm(alloc, to, file, files),
             Command::Dis(file) => dis(alloc, file, files, out),
             Command::Notes(names) => notes(alloc, &names, files, out),
-            Command::Run(request) => run(alloc, request, files, out),
+            Command::Run(request) => run(alloc, request, files, out, choosers, watchers),
             Command::Link(request) => link(alloc, request, files, out),
         }
     }

@@ -2,8 +2,9 @@
 
 ghost use Rattle.std.specs.Prelude.{◌≡◌, ◌≢◌, ◌↔◌, IsTrue, IfOk, IfErr, IfSome, IfNone, ℕ, true, [], Some, map, option_map, codes};
 ghost use Rattle.clap.specs.Words.{app_of, fault_of, matches_of, rows_of, found_of, first_of, all_of, one_of, is_simple_and_free};
-ghost use Rattle.cet.specs.Command.{texts, names_of};
-ghost use Rattle.cet.specs.Words.{IsNumber};
+ghost use Rattle.cet.specs.Command.{texts};
+ghost use Rattle.cet_verbs.specs.Named.{names_of};
+ghost use Rattle.cet.specs.Words.{IsNumber, IsPlain};
 
 use clap::error::ErrorKind;
 use clap::{ArgMatches, Command};
@@ -71,8 +72,30 @@ pub fn values<'a>(
     }
 }
 
-/// The number by this id, which is below 2^32.
-pub fn number(found: &ArgMatches<'_>, id: &str) -> Option<u32>
+// Whether the text of a number has no sign and no leading zero.
+fn is_plain(text: &str) -> bool
+    ensures { IsTrue result ↔ IsPlain (Some text.now) }
+{
+    match text.as_bytes().first() {
+        Some(first) => b'1' <= *first && *first <= b'9',
+        None => false,
+    }
+}
+
+/// The number by this id, below 2^32, where its text has no sign and no leading zero.
+pub fn plain_number(found: &ArgMatches<'_>, id: &str) -> Option<u32>
+    ensures some { IfSome result (λ number. IsNumber (one_of id.now (rows_of (found_of found.now))) number) }
+    ensures plain { IfSome result (λ number. IsPlain (first_of id.now (rows_of (found_of found.now)))) }
+    ensures none { IfNone result ((number : ℕ) → IsNumber (one_of id.now (rows_of (found_of found.now))) number → ¬ IsPlain (first_of id.now (rows_of (found_of found.now)))) }
+{
+    match value(found, id) {
+        Some(text) if is_plain(text) => number(found, id),
+        _ => None,
+    }
+}
+
+// The number by this id, which is below 2^32.
+fn number(found: &ArgMatches<'_>, id: &str) -> Option<u32>
     ensures some { IfSome result (λ number. IsNumber (one_of id.now (rows_of (found_of found.now))) number) }
     ensures none { IfNone result ((number : ℕ) → ¬ IsNumber (one_of id.now (rows_of (found_of found.now))) number) }
 {

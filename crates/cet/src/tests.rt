@@ -3,13 +3,16 @@ ghost use Rattle.std.specs.Prelude.{◌≢◌, None};
 
 use crate::top;
 use cet_base::{Failed, Files, MemFiles, MemSink, NoMemory, Sink};
+use cet_choosers::{Chooser, Counter, RoundRobin, Watcher};
 use std::alloc::Global;
 use std::test::Fail;
 
 mod asm;
+mod choosers;
 mod dis;
 mod link;
 mod notes;
+mod programs;
 mod real_files;
 mod requests;
 mod runs;
@@ -22,7 +25,7 @@ struct Answer {
     err: MemSink,
 }
 
-// Runs `top` on the words, with an output that takes `most` bytes in a write and `room` in all.
+// Runs `top` on the words, as `main` does, with an output that takes `most` bytes in a write and `room` in all.
 fn run<F: Files>(
     alloc: Global,
     words: &[&str],
@@ -38,7 +41,19 @@ fn run<F: Files>(
     }
     let mut out = MemSink::new(alloc, most, room)?;
     let mut err = MemSink::new(alloc, most, 100)?;
-    let status = top(alloc, &texts, files, &mut out, &mut err);
+    let mut choosers: Vec<Box<dyn Chooser>> = Vec::new(alloc);
+    choosers.push(Box::new(alloc, RoundRobin::new())?)?;
+    let mut watchers: Vec<Box<dyn Watcher>> = Vec::new(alloc);
+    watchers.push(Box::new(alloc, Counter::new())?)?;
+    let status = top(
+        alloc,
+        &texts,
+        files,
+        &mut out,
+        &mut err,
+        choosers,
+        &mut watchers,
+    );
     Ok(Answer { status, out, err })
 }
 

@@ -2,12 +2,12 @@
 use super::*;
 use std::test::Fail;
 
-const LINK: &[&str] = &["link", "--out", "e", "a.o"];
+pub(super) const LINK: &[&str] = &["link", "--out", "e", "a.o"];
 
 const BOTH: &[&str] = &["link", "--out", "e", "a.o", "b.o"];
 
 // The files `a` and `b` hold the texts, and `a.o` and `b.o` their objects; there is room for `e`.
-fn objects(alloc: Global, a: &[u8], b: &[u8]) -> Result<MemFiles, NoMemory> {
+pub(super) fn objects(alloc: Global, a: &[u8], b: &[u8]) -> Result<MemFiles, NoMemory> {
     let mut files = MemFiles::new(alloc);
     files.put("a", a)?;
     files.put("b", b)?;

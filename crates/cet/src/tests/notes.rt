@@ -1,4 +1,5 @@
 //! `notes`, over files and outputs in memory.
+use super::link::{LINK, objects as objects_of};
 use super::*;
 use std::test::Fail;
 
@@ -161,7 +162,7 @@ const OBJECT: &[u8; 320] =
 // The columns: a place in OBJECT and the byte put there, the output, the line on standard error, the status.
 #[test]
 fn objects(rt: HostRuntime) -> Result<(), Fail> {
-    let rows: [(usize, u8, &str, &str, u8); 9] = [
+    let rows: [(usize, u8, &str, &str, u8); 10] = [
         (
             0,
             0x7f,
@@ -178,8 +179,10 @@ fn objects(rt: HostRuntime) -> Result<(), Fail> {
             0,
         ),
         (196, 1, "a: none\nmerged: none\n", "", 0),
-        // An executable, another machine, section headers past the end of the file, and a note past it.
-        (16, 2, "", "cet: bad a at 16: kind\n", 6),
+        // As an executable it has no note, since it has no program headers.
+        (16, 2, "a: none\nmerged: none\n", "", 0),
+        // No type of ours, another machine, section headers past the end of the file, and a note past it.
+        (16, 3, "", "cet: bad a at 16: kind\n", 6),
         (18, 3, "", "cet: bad a at 18: machine\n", 6),
         (40, 0x81, "", "cet: bad a at 40: bounds\n", 6),
         (225, 2, "", "cet: bad a at 216: bounds\n", 6),
@@ -195,6 +198,82 @@ fn objects(rt: HostRuntime) -> Result<(), Fail> {
         assert_eq!(rt; answer.err.bytes(), err.as_bytes());
         assert_eq!(rt; answer.out.bytes(), out.as_bytes());
         assert_eq!(rt; answer.status, status);
+    }
+    Ok(())
+}
+
+const CLAIMING: &[u8] = b".global _start; .func _start; ret; .end; .note ibt shstk";
+
+const SILENT: &[u8] = b".global _start; .func _start; ret; .end";
+
+// The columns: the text of an object, a place in its executable `e` and the byte put there, the output, the line on standard error, the status.
+// The program headers of `e` stand at 64, 120 and 176, the last one that of the note, which is at 8,192.
+const EXECUTABLES: &[(&[u8], usize, u8, &str, &str, u8)] = &[
+    (
+        CLAIMING,
+        0,
+        0x7f,
+        "e: 0xc0000002=0x00000003\na.o: 0xc0000002=0x00000003\nn: 0xc0000002=0x00000001\nmerged: 0xc0000002=0x00000001\n",
+        "",
+        0,
+    ),
+    (
+        SILENT,
+        0,
+        0x7f,
+        "e: none\na.o: none\nn: 0xc0000002=0x00000001\nmerged: none\n",
+        "",
+        0,
+    ),
+    // The claim of the executable itself.
+    (
+        CLAIMING,
+        8216,
+        2,
+        "e: 0xc0000002=0x00000002\na.o: 0xc0000002=0x00000003\nn: 0xc0000002=0x00000001\nmerged: none\n",
+        "",
+        0,
+    ),
+    // Faults of its note, counted in the note.
+    (CLAIMING, 8192, 5, "", "cet: bad e at 0: name\n", 6),
+    (CLAIMING, 208, 0x1b, "", "cet: bad e at 24: cut\n", 6),
+    // Its own: another type, another machine, a program interpreter, and a note past the end of the file.
+    (CLAIMING, 16, 3, "", "cet: bad e at 16: kind\n", 6),
+    (CLAIMING, 18, 3, "", "cet: bad e at 18: machine\n", 6),
+    (CLAIMING, 120, 3, "", "cet: bad e at 120: unsupported\n", 6),
+    (CLAIMING, 186, 1, "", "cet: bad e at 184: bounds\n", 6),
+];
+
+// The files: `a.o` is the object of the text, `e` its executable with the byte put there, and `n` holds the note LESS.
+fn linked(alloc: Global, text: &[u8], place: usize, byte: u8) -> Result<MemFiles, NoMemory> {
+    let mut files = objects_of(alloc, text, b"")?;
+    let _ = run(alloc, LINK, &mut files, 1000, 1000)?;
+    let mut bytes = Vec::new(alloc);
+    if let Some(held) = files.get("e") {
+        bytes.extend_from_slice(held)?;
+    }
+    if let Some(field) = bytes.get_mut(place) {
+        *field = byte;
+    }
+    files.put("e", &bytes)?;
+    files.put("n", LESS)?;
+    Ok(files)
+}
+
+#[test]
+fn executables(rt: HostRuntime) -> Result<(), Fail> {
+    for row in EXECUTABLES {
+        let mut files = linked(rt.alloc(), row.0, row.1, row.2)?;
+        let answer = run(
+            rt.alloc(),
+            &["notes", "e", "a.o", "n"],
+            &mut files,
+            100,
+            200,
+        )?;
+        assert_eq!(rt; answer.err.bytes(), row.4.as_bytes());
+        assert_eq!(rt; answer.out.bytes(), row.3.as_bytes());
+        assert_eq!(rt; answer.status, row.5);
     }
     Ok(())
 }

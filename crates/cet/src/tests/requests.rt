@@ -31,7 +31,7 @@ fn shown(alloc: Global, words: &[&str]) -> Result<String, Fail> {
 // The columns: the words, and what they ask for.
 #[test]
 fn requests(rt: HostRuntime) -> Result<(), Fail> {
-    let rows: [(&[&str], &str); 64] = [
+    let rows: [(&[&str], &str); 66] = [
         // No verb, none of the verbs, and no help.
         (&[], "refused"),
         (&[""], "refused"),
@@ -107,6 +107,8 @@ fn requests(rt: HostRuntime) -> Result<(), Fail> {
             "run false Some(\"s\") Some(\"i\") 1000000 [a]",
         ),
         (&["run", "--limit", "0", "a"], "refused"),
+        (&["run", "--limit", "01", "a"], "refused"),
+        (&["run", "--limit", "+1", "a"], "refused"),
         (&["run", "--limit", "1000001", "a"], "refused"),
         (&["run", "--limit=-5", "a"], "refused"),
         (&["run", "--raw", "--limit", "2"], "refused"),

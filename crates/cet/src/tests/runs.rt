@@ -1,7 +1,8 @@
 //! Runs of raw code and of executables.
 use super::Answer;
-use crate::run::{RunRequest, run};
 use cet_base::{Files, MemFiles, MemSink, NoMemory};
+use cet_choosers::{Counter, RoundRobin};
+use cet_verbs::run::{RunRequest, run};
 use std::alloc::Global;
 use std::test::Fail;
 
@@ -14,7 +15,10 @@ fn told<F: Files>(
 ) -> Result<Answer, NoMemory> {
     let mut out = MemSink::new(alloc, 100, room)?;
     let mut err = MemSink::new(alloc, 100, 100)?;
-    let status = match run(alloc, request, files, &mut out) {
+    let mut choosers = Vec::new(alloc);
+    choosers.push(RoundRobin::new())?;
+    let mut watchers: Vec<Counter> = Vec::new(alloc);
+    let status = match run(alloc, request, files, &mut out, choosers, &mut watchers) {
         Ok(status) => status,
         Err(refusal) => refusal.tell(alloc, &mut err),
     };

@@ -1,8 +1,0 @@
-use Rattle.std.proofs.Common.{◌≡◌, ◌++◌, drop}
-use Rattle.cet.specs.Command.{names_of}
-use Rattle.cet.specs.Notes.{note_lines}
-use Rattle.cet.proofs.notes_text.put_lines.Given as goal
-
--- with the lines that are left, the text is whole
-abbrev pub invariant-loop-i : goal.invariant-loop-i
-invariant-loop-i l = l.text.items ++ note_lines (drop l.i (names_of l.names)) (drop l.i l.notes) ≡ l.initial.text.items ++ note_lines (names_of l.names) l.notes

@@ -1,0 +1,14 @@
+pub mod NameLemmas
+pub mod Reports
+pub mod Checked
+pub mod Pairs
+pub mod StepLemmas
+pub mod TextLemmas
+pub mod RunSteps
+pub mod LinkFaults
+pub mod LinkSteps
+pub mod Features
+pub mod FirstFaults
+pub mod Executables
+pub mod Ran
+pub mod Refusals

@@ -1,0 +1,12 @@
+pub mod Command
+pub mod Named
+pub mod Text
+pub mod Held
+pub mod Notes
+pub mod Runs
+pub mod Watchers
+pub mod Links
+pub mod Unfit
+pub mod Steps
+pub mod Answer
+pub mod Refused
