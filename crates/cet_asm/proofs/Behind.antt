@@ -1,20 +1,23 @@
 -- What statements define, and what is wrong with them, by the statements behind them.
-use Rattle.std.proofs.Common.{◌≡◌, ℕ, ◌+◌, ◌-◌, ◌<◌, true, false, cond, List, [], ◌∷◌, ◌++◌, length, drop, get_or, reverse, Option, Some, None, is_some, unwrap_or, refl, ap, sym, ◌∙◌, arith}
+use Rattle.std.proofs.Common.{◌≡◌, ◌≢◌, ℕ, ◌+◌, ◌-◌, ◌<◌, Bool, true, false, cond, List, [], ◌∷◌, ◌++◌, length, drop, get_or, reverse, Option, Some, None, is_some, unwrap_or, refl, ap, sym, ◌∙◌, arith}
 use Rattle.std.specs.Option.{option_map, option_map_or, option_or, option_to_list}
 use Rattle.std.proofs.lemmas.List.{at_drop_more, reverse-append}
 use Rattle.cet_elf.specs.declared.object.SymbolKind.TheVariants as kind
 use Rattle.cet_syntax.specs.declared.template.Code.TheVariants as code
 use Rattle.cet_syntax.specs.declared.statement.Directive.TheVariants as directive
 use Rattle.cet_syntax.specs.declared.statement.Statement.TheVariants as statement
+use Rattle.std.specs.Int.{w8}
 use Rattle.cet_asm.specs.declared.error.AsmError.{AsmError}
+use Rattle.cet_asm.specs.declared.error.AsmKind.{AsmKind}
 use Rattle.cet_asm.specs.declared.error.AsmKind.TheVariants as fault
 use Rattle.cet_asm.specs.declared.definition.Definition.{Definition}
 use Rattle.cet_asm.specs.declared.placed.Placed.{Placed}
 use Rattle.cet_asm.specs.declared.placed.Spot.{Spot}
 use Rattle.cet_asm.specs.declared.placed.Step.{Step}
 use Rattle.cet_asm.specs.declared.placed.Step.TheVariants.{Label, States}
-use Rattle.cet_asm.specs.Emitted.{Targets}
-use Rattle.cet_asm.specs.Assembled.{end_among, ends_function, defined_by, definitions, late_fault, first_late}
+use Rattle.cet_isa.specs.Canonical.{fits}
+use Rattle.cet_asm.specs.Emitted.{Targets, short_distance}
+use Rattle.cet_asm.specs.Assembled.{end_among, ends_function, defined_by, definitions, short_fault, late_fault, first_late}
 use Rattle.cet_asm.specs.Whole.{end_of, end_from, defined_at, step_defines, late_at, step_late}
 
 end_behind : (p : Placed) (later : List Placed) → end_from p (end_of later) ≡ end_of (p ∷ later)
@@ -83,3 +86,34 @@ late_more targets placed m p behind end lt is before ended =
     let whole : option_or (option_map (λ kind. record { line = q.line; kind = kind }) (late_at targets q (end_of later))) (first_late targets later) ≡ first_late targets (drop m placed) =
     rw (← here) (sym split) in
     (rw (is, ended, before) whole, rw (is, ended) (close ∙ sym ends))
+
+range_kind : (b : Bool) (kind : AsmKind) → cond b None (Some fault.Range) ≡ Some kind → kind ≢ fault.NoMemory
+range_kind true kind e = absurd cc
+range_kind false kind e = λ n. cc
+
+word_kind : (b : Bool) (kind : AsmKind) → cond b None (Some fault.Word) ≡ Some kind → kind ≢ fault.NoMemory
+word_kind true kind e = absurd cc
+word_kind false kind e = λ n. cc
+
+short_kind : (targets : Targets) (spot : Spot) (name : List ℕ) (kind : AsmKind) (target : Option ℕ) → targets spot.section name ≡ target → short_fault targets spot name ≡ Some kind → kind ≢ fault.NoMemory
+short_kind targets spot name kind None is e = λ n. let said : ◌≡◌ {A = Option AsmKind} (Some fault.Label) (Some kind) = rw is at e in cc
+short_kind targets spot name kind (Some target) is e = range_kind (fits w8 (short_distance spot.offset target)) kind (rw is at e)
+
+step_kind : (targets : Targets) (spot : Spot) (end : Option ℕ) (s : Step) (kind : AsmKind) → step_late targets spot s end ≡ Some kind → kind ≢ fault.NoMemory
+step_kind targets spot end (Label name) kind e = absurd cc
+step_kind targets spot end (States (statement.Code (code.Short c name))) kind e = short_kind targets spot name kind (targets spot.section name) refl e
+step_kind targets spot end (States (statement.Directive (directive.Func name))) kind e = word_kind (is_some end) kind e
+step_kind targets spot end (States (statement.Code _)) kind e = absurd cc
+step_kind targets spot end (States (statement.Directive _)) kind e = absurd cc
+step_kind targets spot end (States _) kind e = absurd cc
+
+-- a late fault is no want of memory
+pub first_late-kind : (targets : Targets) (placed : List Placed) (e : AsmError) → Some e ≡ first_late targets placed → e.kind ≢ fault.NoMemory
+first_late-kind targets [] e is = absurd cc
+first_late-kind targets (p ∷ later) e is = by_fault (late_fault targets p later) refl (sym is) (λ said. first_late-kind targets later e said) where
+  by_fault : (o : Option AsmKind) → late_fault targets p later ≡ o → option_or (option_map (λ kind. record { line = p.line; kind = kind }) o) (first_late targets later) ≡ Some e
+      → (Some e ≡ first_late targets later → e.kind ≢ fault.NoMemory) → e.kind ≢ fault.NoMemory
+  by_fault None late said behind = behind (sym said)
+  by_fault (Some kind) late said behind = λ n.
+      let same : kind ≡ e.kind = cc in
+      step_kind targets p.spot (end_of later) p.step kind (sym (late_behind targets p later) ∙ late) (same ∙ n)

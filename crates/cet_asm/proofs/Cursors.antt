@@ -42,7 +42,7 @@ size_in-with sizes here by = fun_ext (by_section here) where
   by_section Bss Data = refl
   by_section Bss Bss = refl
 
-after-grown : (s : State) (st : Statement) → takes_bytes st ≡ true → after_statement s st ≡ grown s (size_of (s.sizes s.section) st)
+pub after-grown : (s : State) (st : Statement) → takes_bytes st ≡ true → after_statement s st ≡ grown s (size_of (s.sizes s.section) st)
 after-grown s (statement.Directive (directive.Section name)) e = cc
 after-grown s (statement.Directive (directive.Func name)) e = cc
 after-grown s (statement.Directive directive.End) e = cc

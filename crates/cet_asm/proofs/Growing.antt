@@ -34,13 +34,3 @@ pub sum_split : {X : Type 0} (f : X → ℕ) (t : X → Bool) (x : X) (rest : Li
 sum_split f t x rest =
     elim (t x) as (λ b. sum_by f (cond b (x ∷ filter t rest) (filter t rest)) ≡ sum_by f (cond b (x ∷ []) []) + sum_by f (filter t rest))
     [ true ↦ sum_true f x (filter t rest) | false ↦ omega arith ]
-
--- a sum so far, with what is to come
-pub summed : {X : Type 0} (G : List X → ℕ) → ((x : X) (rest : List X) → G (x ∷ rest) ≡ G (x ∷ []) + G rest) → (xs : List X) (i : ℕ) (x : X) (old new start : ℕ)
-    → i < length xs → x ≡ get_or xs i x → new ≡ old + G (x ∷ []) → old + G (drop i xs) ≡ start → new + G (drop (i + 1) xs) ≡ start
-summed G splits xs i x old new start lt is more before =
-    let rest = drop (i + 1) xs in
-    let split : G (drop i xs) ≡ G (get_or xs i x ∷ rest) = at_drop_more G xs i x lt in
-    let here : G (get_or xs i x ∷ rest) ≡ G (x ∷ rest) = ap (λ y. G (y ∷ rest)) (sym is) in
-    let whole : G (x ∷ rest) ≡ G (x ∷ []) + G rest = splits x rest in
-    omega arith

@@ -22,3 +22,4 @@ pub mod Fields
 pub mod Steps
 pub mod FromPlaced
 pub mod ItemLemmas
+pub mod Sized

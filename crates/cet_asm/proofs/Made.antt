@@ -11,7 +11,8 @@ use Rattle.cet_asm.specs.declared.error.AsmError.{AsmError}
 use Rattle.cet_asm.specs.declared.kept.Kept.{Kept}
 use Rattle.cet_asm.specs.declared.definition.Definition.{Definition}
 use Rattle.cet_asm.specs.declared.placed.Placed.{Placed}
-use Rattle.cet_asm.specs.Tables.{by_section}
+use Rattle.cet_asm.specs.declared.cursor.Sizes.{Sizes}
+use Rattle.cet_asm.specs.Placing.{AreSizes}
 use Rattle.cet_asm.specs.Assembled.{entry_0, symbols, symbol_number, section_number, section_size, same_section, is_kept, is_among, global_names, definitions, used_names, section_of, kept, note_bytes, note_words, object_of, whole, first_late, targets_in}
 use Rattle.cet_asm.specs.Emitted.{Targets}
 use Rattle.cet_asm.specs.Whole.{bound_symbols, first_uses, kept_number, is_kept_in, numbers_agree, number_by}
@@ -27,25 +28,19 @@ symbols_from placed entries k ds used first locals both all global kept defined 
 pub numbers_from : (placed : List Placed) (numbers : List ℕ → Option ℕ) (list : List Symbol) → list ≡ symbols placed → numbers_agree numbers list → (name : List ℕ) → number_by numbers name ≡ symbol_number placed name
 numbers_from placed numbers list same agree = number_found placed numbers (subst (λ (l : List Symbol). numbers_agree numbers l) same agree)
 
-pub sizes_all : (placed : List Placed) (t r d b : ℕ) → t ≡ section_size Text placed → r ≡ section_size Rodata placed → d ≡ section_size Data placed → b ≡ section_size Bss placed
-    → (s : SectionName) → by_section t r d b s ≡ section_size s placed
-sizes_all placed t r d b te re de be Text = te
-sizes_all placed t r d b te re de be Rodata = re
-sizes_all placed t r d b te re de be Data = de
-sizes_all placed t r d b te re de be Bss = be
-
 abbrev keeps : List Definition → ℕ → SectionName → Bool
 keeps ds size s = not (size == 0) || list_any (λ d. same_section d.section s) ds
 
 kept_one : (ds es : List Definition) (size other : ℕ) (s : SectionName) (b : Bool) → size ≡ other → ds ≡ es → b ≡ keeps ds size s → b ≡ keeps es other s
 kept_one ds es size other s b same defined is = is ∙ (ap (λ (n : ℕ). keeps ds n s) same ∙ ap (λ (e : List Definition). keeps e other s) defined)
 
-pub kept_all : (placed : List Placed) (ds : List Definition) (t r d b : ℕ) (kr kd kb : Bool) → ((s : SectionName) → by_section t r d b s ≡ section_size s placed) → ds ≡ definitions placed
-    → kr ≡ keeps ds r Rodata → kd ≡ keeps ds d Data → kb ≡ keeps ds b Bss → (s : SectionName) → is_kept_in (record { rodata = kr; «data» = kd; bss = kb }) s ≡ is_kept placed s
-kept_all placed ds t r d b kr kd kb sizes defined re de be Text = refl
-kept_all placed ds t r d b kr kd kb sizes defined re de be Rodata = kept_one ds (definitions placed) r (section_size Rodata placed) Rodata kr (sizes Rodata) defined re
-kept_all placed ds t r d b kr kd kb sizes defined re de be Data = kept_one ds (definitions placed) d (section_size Data placed) Data kd (sizes Data) defined de
-kept_all placed ds t r d b kr kd kb sizes defined re de be Bss = kept_one ds (definitions placed) b (section_size Bss placed) Bss kb (sizes Bss) defined be
+pub kept_all : (placed : List Placed) (ds : List Definition) (sizes : Sizes) (kr kd kb : Bool) → AreSizes sizes placed → ds ≡ definitions placed
+    → kr ≡ keeps ds sizes.rodata Rodata → kd ≡ keeps ds sizes.data Data → kb ≡ keeps ds sizes.bss Bss
+    → (s : SectionName) → is_kept_in (record { rodata = kr; «data» = kd; bss = kb }) s ≡ is_kept placed s
+kept_all placed ds sizes kr kd kb sized defined re de be Text = refl
+kept_all placed ds sizes kr kd kb sized defined re de be Rodata = kept_one ds (definitions placed) sizes.rodata (section_size Rodata placed) Rodata kr (sized Rodata) defined re
+kept_all placed ds sizes kr kd kb sized defined re de be Data = kept_one ds (definitions placed) sizes.data (section_size Data placed) Data kd (sized Data) defined de
+kept_all placed ds sizes kr kd kb sized defined re de be Bss = kept_one ds (definitions placed) sizes.bss (section_size Bss placed) Bss kb (sized Bss) defined be
 
 pub answered : (wanted answer : Result Object AsmError) → wanted ≡ answer → IfOk answer (λ object. wanted ≡ Ok object)
 answered wanted (Ok object) same = same

@@ -25,12 +25,6 @@ bytes_at targets p st is = ap (λ s. step_bytes targets (with_step p s)) is
 pub no_bytes_at : (targets : Targets) (p : Placed) (name : List ℕ) → p.step ≡ Label name → step_bytes targets p ≡ []
 no_bytes_at targets p name is = ap (λ s. step_bytes targets (with_step p s)) is
 
-pub size_at : (p : Placed) (st : Statement) → p.step ≡ States st → step_size p ≡ size_of p.spot.offset st
-size_at p st is = ap (λ s. step_size (with_step p s)) is
-
-pub no_size_at : (p : Placed) (name : List ℕ) → p.step ≡ Label name → step_size p ≡ 0
-no_size_at p name is = ap (λ s. step_size (with_step p s)) is
-
 pub relocations_at : (number : List ℕ → ℕ) (targets : Targets) (p : Placed) (st : Statement) → p.step ≡ States st
     → relocations_by number targets p ≡ map (λ u. relocation_by number (moved p.spot.offset u)) (emitted targets p.spot st).uses
 relocations_at number targets p st is = ap (λ s. relocations_by number targets (with_step p s)) is
@@ -54,13 +48,3 @@ no_table section (statement.Directive (directive.Off name table)) = refl
 no_table section (statement.Directive _) = tt
 no_table section (statement.Code _) = tt
 no_table section (statement.Site _) = tt
-
-ends_at : (b : Bool) (n e : ℕ) → ◌≡◌ {A = Result ℕ AsmKind} (cond b (Ok n) (Err fault.Range)) (Ok e) → e ≡ n
-ends_at true n e is = cc
-ends_at false n e is = absurd cc
-
--- how far a statement goes
-pub size_from : (offset : ℕ) (st : Statement) (e : ℕ) → end_of offset st ≡ Ok e → e - offset ≡ size_of offset st
-size_from offset st e is =
-    let same : e ≡ offset + size_of offset st = ends_at (nat_lt (offset + size_of offset st) (2 ^ 64)) (offset + size_of offset st) e is in
-    omega arith

@@ -388,6 +388,10 @@ assembly text = placed_from [] first_state (items_in text) >>= whole
 abbrev pub Assembles : List ℕ → Object → Type 0
 Assembles text object = assembly text ≡ Ok object
 
+-- want of memory is on no line
+abbrev pub HasLine : AsmError → Type 0
+HasLine e = e.kind ≡ fault.NoMemory → e.line ≡ 0
+
 -- the first fault of the text
 abbrev pub IsAsmFault : List ℕ → AsmError → Type 0
 IsAsmFault text e = assembly text ≡ Err e

@@ -34,7 +34,7 @@ use Rattle.cet_asm.specs.declared.assembly.Reading.{Reading}
 use Rattle.cet_asm.specs.declared.cursor.Sizes.{Sizes}
 use Rattle.cet_asm.specs.declared.cursor.Cursor.{Cursor}
 use Rattle.cet_asm.specs.Emitted.{Targets, R_X86_64_64, template_uses, offset_use, site_emitted, padding, size_of}
-use Rattle.cet_asm.specs.Assembled.{◌>>=◌, State, same_section, demand, stands, by_kind, spot_in, after, step_of, placed_of, addends_fit, is_among, each_once, definitions, used_names, uses_of, no_targets, note_words, is_label, targets_in, defines_anew, keeps_limits}
+use Rattle.cet_asm.specs.Assembled.{◌>>=◌, State, same_section, demand, stands, by_kind, spot_in, after, step_of, placed_of, addends_fit, is_among, each_once, definitions, used_names, uses_of, no_targets, note_words, is_label, targets_in, section_size, defines_anew, keeps_limits}
 use Rattle.cet_asm.specs.Names.{known_at, place_at, count_of}
 
 -- ---- answers
@@ -106,6 +106,10 @@ takes_bytes (statement.Directive (directive.Section name)) = false
 takes_bytes (statement.Directive (directive.Func name)) = false
 takes_bytes (statement.Directive directive.End) = false
 takes_bytes _ = true
+
+-- each section has as many bytes as its statements take
+abbrev pub AreSizes : Sizes → List Placed → Type 0
+AreSizes sizes placed = (section : SectionName) → size_in sizes section ≡ section_size section placed
 
 abbrev pub state_of : Cursor → State
 state_of cursor = record { section = cursor.section; sizes = size_in cursor.sizes; around = cursor.around }

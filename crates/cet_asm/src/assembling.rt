@@ -2,7 +2,7 @@
 ghost use Rattle.std.specs.Prelude.{◌≢◌, IfOk, IfErr};
 ghost use Rattle.cet_elf.specs.Regular.{IsRegular};
 ghost use Rattle.cet_asm.specs.declared.error.AsmKind.TheVariants as fault;
-ghost use Rattle.cet_asm.specs.Assembled.{Assembles, IsAsmFault};
+ghost use Rattle.cet_asm.specs.Assembled.{Assembles, HasLine, IsAsmFault};
 
 use crate::assembly::place;
 use crate::error::AsmError;
@@ -16,11 +16,12 @@ use std::alloc::Global;
 pub fn assemble(alloc: Global, text: &[u8]) -> Result<Object, AsmError>
     ensures assembled { IfOk result (Assembles text.now) }
     ensures fault { IfErr result (λ e. e.kind ≢ fault.NoMemory → IsAsmFault text.now e) }
+    ensures memory { IfErr result HasLine }
     // The object can be written, and is read back as it is.
     ensures regular { IfOk result IsRegular }
 {
     match place(alloc, text) {
-        Ok(placed) => object(alloc, placed.as_slice()),
+        Ok(placement) => object(alloc, placement.statements.as_slice(), placement.sizes),
         Err(fault) => Err(fault),
     }
 }

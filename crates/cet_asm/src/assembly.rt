@@ -3,11 +3,11 @@ ghost use Rattle.std.specs.Prelude.{◌≡◌, ◌≢◌, ℕ, ◌+◌, List, []
 ghost use Rattle.std.specs.Option.{option_map};
 ghost use Rattle.cet_syntax.specs.Lines.{items_in};
 ghost use Rattle.cet_asm.specs.declared.error.AsmKind.TheVariants as kinds;
-ghost use Rattle.cet_asm.specs.Assembled.{first_state, on_line as on_line_of, step_of, placed_of, placed_from, spot_in, table_is_known};
-ghost use Rattle.cet_asm.specs.Placing.{IsAnswer, IsWritten, IsTable, IsKept, IsReading, IsPlacedNext, mark_of, state_of, statement_at, step_end, targets_of};
+ghost use Rattle.cet_asm.specs.Assembled.{first_state, on_line as on_line_of, step_of, placed_of, placed_from, spot_in, table_is_known, HasLine};
+ghost use Rattle.cet_asm.specs.Placing.{AreSizes, IsAnswer, IsWritten, IsTable, IsKept, IsReading, IsPlacedNext, mark_of, state_of, statement_at, step_end, targets_of};
 
 use crate::counts::Counts;
-use crate::cursor::{Cursor, same_section};
+use crate::cursor::{Cursor, Sizes, same_section};
 use crate::error::{AsmError, AsmKind};
 use crate::extent::statement_end;
 use crate::names::Target;
@@ -78,6 +78,13 @@ fn definition<'a>(cursor: &Cursor<'a>, step: &Step<'a>, end: u64) -> Option<(&'a
     }
 }
 
+/// The statements of a text in their places, and how many bytes they take.
+#[derive(Drop)]
+pub(crate) struct Placement<'a> {
+    pub(crate) statements: Vec<Placed<'a>>,
+    pub(crate) sizes: Sizes,
+}
+
 /// The statements in their places so far, and what is known of them.
 #[derive(Drop)]
 pub(crate) struct Assembly<'a> {
@@ -90,6 +97,7 @@ pub(crate) struct Assembly<'a> {
 impl<'a> Assembly<'a> {
     fn new(alloc: Global) -> Assembly<'a>
         ensures kept { IsKept result }
+        ensures sized { AreSizes result.cursor.sizes result.placed.items }
         ensures none { result.placed.items ≡ [] }
         ensures state { state_of result.cursor ≡ first_state }
     {
@@ -150,9 +158,11 @@ impl<'a> Assembly<'a> {
 
     // Puts the next item in its place.
     fn place(&mut self, line: u32, item: Item<'a>) -> Result<(), AsmKind>
-        requires { IsKept self.old }
+        requires kept { IsKept self.old }
+        requires sized { AreSizes self.old.cursor.sizes self.old.placed.items }
         ensures placed { OnOk result (IsPlacedNext self.old self.new (record { line = line; item = item.entry })) }
         ensures kept { OnOk result (IsKept self.new) }
+        ensures sized { OnOk result (AreSizes self.new.cursor.sizes self.new.placed.items) }
         ensures fault { IfErr result (λ kind. kind ≢ kinds.NoMemory → placed_of self.old.placed.items (state_of self.old.cursor) (record { line = line; item = item.entry }) ≡ Err kind) }
     {
         let reading = self.read(item)?;
@@ -172,6 +182,7 @@ impl<'a> Assembly<'a> {
 fn on_line(line: u32, kind: AsmKind) -> AsmError
     ensures kind { result.kind ≡ kind }
     ensures line { kind ≢ kinds.NoMemory → result.line ≡ line }
+    ensures memory { HasLine result }
 {
     match kind {
         AsmKind::NoMemory => AsmError { line: 0, kind },
@@ -180,9 +191,11 @@ fn on_line(line: u32, kind: AsmKind) -> AsmError
 }
 
 /// The statements of the text in their places, or the first fault of a statement.
-pub(crate) fn place<'a>(alloc: Global, text: &'a [u8]) -> Result<Vec<Placed<'a>>, AsmError>
-    ensures placed { IfOk result (λ placed. placed_from [] first_state (items_in text.now) ≡ Ok placed.items) }
+pub(crate) fn place<'a>(alloc: Global, text: &'a [u8]) -> Result<Placement<'a>, AsmError>
+    ensures placed { IfOk result (λ p. placed_from [] first_state (items_in text.now) ≡ Ok p.statements.items) }
+    ensures sized { IfOk result (λ p. AreSizes p.sizes p.statements.items) }
     ensures fault { IfErr result (λ e. e.kind ≢ kinds.NoMemory → placed_from [] first_state (items_in text.now) ≡ Err e) }
+    ensures memory { IfErr result HasLine }
 {
     let mut assembly = Assembly::new(alloc);
     let items = match read_items(alloc, text) {
@@ -195,6 +208,10 @@ pub(crate) fn place<'a>(alloc: Global, text: &'a [u8]) -> Result<Vec<Placed<'a>>
             return Err(on_line(line, kind));
         }
     }
+    let sizes = assembly.cursor.sizes();
     let Assembly { placed, .. } = assembly;
-    Ok(placed)
+    Ok(Placement {
+        statements: placed,
+        sizes,
+    })
 }

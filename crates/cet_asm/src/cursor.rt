@@ -20,17 +20,17 @@ pub(crate) fn same_section(section: SectionName, other: SectionName) -> bool
     }
 }
 
-/// The bytes that each section has so far.
+/// How many bytes each section has.
 #[derive(Clone, Copy, Debug, PartialEq, Eq)]
 pub(crate) struct Sizes {
-    text: u64,
-    rodata: u64,
-    data: u64,
-    bss: u64,
+    pub(crate) text: u64,
+    pub(crate) rodata: u64,
+    pub(crate) data: u64,
+    pub(crate) bss: u64,
 }
 
 impl Sizes {
-    fn of(self, section: SectionName) -> u64
+    pub(crate) fn of(self, section: SectionName) -> u64
         ensures { result ≡ size_in self section }
     {
         match section {
@@ -110,6 +110,13 @@ impl<'a> Cursor<'a> {
         ensures { result ≡ (spot_in (state_of self.now)).offset }
     {
         self.sizes.of(self.section)
+    }
+
+    /// The bytes of each section before it.
+    pub(crate) fn sizes(&self) -> Sizes
+        ensures { result ≡ self.now.sizes }
+    {
+        self.sizes
     }
 
     /// The section of the next statement.

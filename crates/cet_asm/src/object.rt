@@ -6,11 +6,12 @@ ghost use Rattle.cet_elf.specs.Regular.{IsRegular};
 ghost use Rattle.cet_note.specs.Form.{written};
 ghost use Rattle.cet_syntax.specs.declared.statement.SectionName.{SectionName as SectionOf};
 ghost use Rattle.cet_asm.specs.declared.error.AsmKind.TheVariants as fault;
-ghost use Rattle.cet_asm.specs.Tables.{by_section, number_at, targets_at};
-ghost use Rattle.cet_asm.specs.Assembled.{same_section as same_section_of, section_size as section_size_of, is_kept, definitions as definitions_of, targets_in, section_number, symbols as symbols_of, symbol_number, note_words as note_words_of, note_bits as note_bits_of, note_bytes, object_of, whole as whole_of};
+ghost use Rattle.cet_asm.specs.Tables.{number_at, targets_at};
+ghost use Rattle.cet_asm.specs.Assembled.{HasLine, same_section as same_section_of, is_kept, definitions as definitions_of, targets_in, section_number, symbols as symbols_of, symbol_number, note_words as note_words_of, note_bits as note_bits_of, note_bytes, object_of, whole as whole_of};
+ghost use Rattle.cet_asm.specs.Placing.{AreSizes, size_in};
 ghost use Rattle.cet_asm.specs.Whole.{section_by, number_by, is_kept_in, kept_number, first_note, sections_by, step_words};
 
-use crate::cursor::same_section;
+use crate::cursor::{Sizes, same_section};
 use crate::definition::{Definition, definitions};
 use crate::error::{AsmError, AsmKind};
 use crate::kept::Kept;
@@ -18,7 +19,7 @@ use crate::late::first_late;
 use crate::names_used::{globals, used_names};
 use crate::placed::{Placed, Step};
 use crate::regular::is_regular;
-use crate::section::{section, section_size};
+use crate::section::section;
 use crate::symbols::Symbols;
 use crate::table::Table;
 use crate::targets::Targets;
@@ -34,31 +35,15 @@ const STORED_LIMIT: u64 = 1 << 30;
 /// How many bytes the sections have, and which of them the object has.
 #[derive(Clone, Copy, Debug, PartialEq, Eq)]
 struct Layout {
-    text: u64,
-    rodata: u64,
-    data: u64,
-    bss: u64,
+    sizes: Sizes,
     kept: Kept,
 }
 
-impl Layout {
-    fn size(self, section: SectionName) -> u64
-        ensures { result ≡ by_section self.text self.rodata self.data self.bss section }
-    {
-        match section {
-            SectionName::Text => self.text,
-            SectionName::Rodata => self.rodata,
-            SectionName::Data => self.data,
-            SectionName::Bss => self.bss,
-        }
-    }
-
-    // Whether the bytes that are stored are not too many.
-    fn has_room(self) -> bool {
-        self.text <= STORED_LIMIT
-            && self.rodata <= STORED_LIMIT - self.text
-            && self.data <= STORED_LIMIT - self.text - self.rodata
-    }
+// Whether the bytes that are stored are not too many.
+fn has_room(sizes: Sizes) -> bool {
+    sizes.text <= STORED_LIMIT
+        && sizes.rodata <= STORED_LIMIT - sizes.text
+        && sizes.data <= STORED_LIMIT - sizes.text - sizes.rodata
 }
 
 // Whether a symbol is defined in the section.
@@ -79,31 +64,17 @@ fn keeps(section: SectionName, size: u64, defined: &[Definition<'_>]) -> bool
     }
 }
 
-fn layout_of(
-    alloc: Global,
-    placed: &[Placed<'_>],
-    defined: &[Definition<'_>],
-) -> Result<Layout, NoMemory>
-    requires { defined.now ≡ definitions_of placed.now }
-    ensures sizes { IfOk result (λ l. (section : SectionOf) → by_section l.text l.rodata l.data l.bss section ≡ section_size_of section placed.now) }
-    ensures kept { IfOk result (λ l. (section : SectionOf) → is_kept_in l.kept section ≡ is_kept placed.now section) }
+// Which sections an object of these statements has.
+fn kept_of(placed: &[Placed<'_>], sizes: Sizes, defined: &[Definition<'_>]) -> Kept
+    requires sizes { AreSizes sizes placed.now }
+    requires defined { defined.now ≡ definitions_of placed.now }
+    ensures { (section : SectionOf) → is_kept_in result section ≡ is_kept placed.now section }
 {
-    let text = section_size(alloc, SectionName::Text, placed)?;
-    let rodata = section_size(alloc, SectionName::Rodata, placed)?;
-    let data = section_size(alloc, SectionName::Data, placed)?;
-    let bss = section_size(alloc, SectionName::Bss, placed)?;
-    let kept = Kept {
-        rodata: keeps(SectionName::Rodata, rodata, defined),
-        data: keeps(SectionName::Data, data, defined),
-        bss: keeps(SectionName::Bss, bss, defined),
-    };
-    Ok(Layout {
-        text,
-        rodata,
-        data,
-        bss,
-        kept,
-    })
+    Kept {
+        rodata: keeps(SectionName::Rodata, sizes.rodata, defined),
+        data: keeps(SectionName::Data, sizes.data, defined),
+        bss: keeps(SectionName::Bss, sizes.bss, defined),
+    }
 }
 
 // Adds a section, where the object has it.
@@ -116,10 +87,10 @@ fn push_section<'a>(
     numbers: &Table<'a>,
     placed: &[Placed<'a>],
 ) -> Result<(), NoMemory>
-    ensures { OnOk result (list.new ≡ list.old ++ (if is_kept_in layout.kept name then section_by (number_by (number_at numbers.now)) (targets_at targets.now) placed.now name (by_section layout.text layout.rodata layout.data layout.bss name) ∷ [] else [])) }
+    ensures { OnOk result (list.new ≡ list.old ++ (if is_kept_in layout.kept name then section_by (number_by (number_at numbers.now)) (targets_at targets.now) placed.now name (size_in layout.sizes name) ∷ [] else [])) }
 {
     if layout.kept.has(name) {
-        list.push(section(alloc, name, layout.size(name), targets, numbers, placed)?)?;
+        list.push(section(alloc, name, layout.sizes.of(name), targets, numbers, placed)?)?;
     }
     Ok(())
 }
@@ -131,7 +102,7 @@ fn sections<'a>(
     numbers: &Table<'a>,
     placed: &[Placed<'a>],
 ) -> Result<SectionList, NoMemory>
-    ensures { IfOk result (λ list. list ≡ sections_by (is_kept_in layout.kept) (λ name. section_by (number_by (number_at numbers.now)) (targets_at targets.now) placed.now name (by_section layout.text layout.rodata layout.data layout.bss name))) }
+    ensures { IfOk result (λ list. list ≡ sections_by (is_kept_in layout.kept) (λ name. section_by (number_by (number_at numbers.now)) (targets_at targets.now) placed.now name (size_in layout.sizes name))) }
 {
     let mut list = Items::new(alloc);
     push_section(
@@ -248,18 +219,21 @@ fn notes(alloc: Global, placed: &[Placed<'_>]) -> Result<Option<Bytes>, NoMemory
 fn assembled<'a>(
     alloc: Global,
     placed: &[Placed<'a>],
+    sizes: Sizes,
     defined: &[Definition<'a>],
     targets: &Targets<'a>,
 ) -> Result<Object, NoMemory>
+    requires sizes { AreSizes sizes placed.now }
     requires defined { defined.now ≡ definitions_of placed.now }
     requires targets { targets_at targets.now ≡ targets_in (definitions_of placed.now) }
     ensures { IfOk result (λ object. object ≡ object_of placed.now) }
 {
-    let layout = layout_of(alloc, placed, defined)?;
-    if !layout.has_room() {
+    if !has_room(sizes) {
         return Err(NoMemory);
     }
-    let symbols = symbols(alloc, placed, defined, layout.kept)?;
+    let kept = kept_of(placed, sizes, defined);
+    let layout = Layout { sizes, kept };
+    let symbols = symbols(alloc, placed, defined, kept)?;
     let sections = sections(alloc, layout, targets, &symbols.numbers, placed)?;
     let notes = notes(alloc, placed)?;
     let Symbols { list, .. } = symbols;
@@ -282,8 +256,15 @@ fn regular(object: Object) -> Result<Object, NoMemory>
     }
 }
 
-fn whole<'a>(alloc: Global, placed: &[Placed<'a>]) -> Result<Result<Object, AsmError>, NoMemory>
+// The object, or the first late fault.
+fn whole<'a>(
+    alloc: Global,
+    placed: &[Placed<'a>],
+    sizes: Sizes,
+) -> Result<Result<Object, AsmError>, NoMemory>
+    requires { AreSizes sizes placed.now }
     ensures answer { IfOk result (λ answer. whole_of placed.now ≡ answer) }
+    ensures late { IfOk result (λ answer. IfErr answer (λ e. e.kind ≢ fault.NoMemory)) }
     ensures regular { IfOk result (λ answer. IfOk answer IsRegular) }
 {
     let defined = definitions(alloc, placed)?;
@@ -291,7 +272,7 @@ fn whole<'a>(alloc: Global, placed: &[Placed<'a>]) -> Result<Result<Object, AsmE
     match first_late(&targets, placed) {
         Some(fault) => Ok(Err(fault)),
         None => {
-            let object = regular(assembled(alloc, placed, &defined, &targets)?)?;
+            let object = regular(assembled(alloc, placed, sizes, &defined, &targets)?)?;
             Ok(Ok(object))
         }
     }
@@ -299,12 +280,14 @@ fn whole<'a>(alloc: Global, placed: &[Placed<'a>]) -> Result<Result<Object, AsmE
 
 /// The object of statements in their places, or the first fault that shows when all are known. The time it takes grows with the number
 /// of statements and bytes. Above 1 GiB of bytes it answers want of memory.
-pub(crate) fn object(alloc: Global, placed: &[Placed<'_>]) -> Result<Object, AsmError>
+pub(crate) fn object(alloc: Global, placed: &[Placed<'_>], sizes: Sizes) -> Result<Object, AsmError>
+    requires { AreSizes sizes placed.now }
     ensures object { IfOk result (λ object. whole_of placed.now ≡ Ok object) }
     ensures fault { IfErr result (λ e. e.kind ≢ fault.NoMemory → whole_of placed.now ≡ Err e) }
+    ensures memory { IfErr result HasLine }
     ensures regular { IfOk result IsRegular }
 {
-    match whole(alloc, placed) {
+    match whole(alloc, placed, sizes) {
         Ok(answer) => answer,
         Err(NoMemory) => Err(AsmError {
             line: 0,

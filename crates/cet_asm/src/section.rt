@@ -1,14 +1,13 @@
 //! The sections of an object.
 ghost use Rattle.std.specs.Prelude.{◌≡◌, [], ◌∷◌, ◌++◌, IfOk, OnOk, map};
-ghost use Rattle.cet_asm.specs.Emitted.{moved, size_of};
-ghost use Rattle.cet_asm.specs.Assembled.{step_size as step_size_of, section_size as section_size_of, section_text, section_class as section_class_of, step_bytes};
+ghost use Rattle.cet_asm.specs.Emitted.{moved};
+ghost use Rattle.cet_asm.specs.Assembled.{section_text, section_class as section_class_of, step_bytes};
 ghost use Rattle.cet_asm.specs.Whole.{relocation_by, relocations_by, number_by, bytes_by, section_by, bytes_of, relocations_of};
 ghost use Rattle.cet_asm.specs.Placing.{IsTable};
 ghost use Rattle.cet_asm.specs.Tables.{number_at, targets_at};
 
 use crate::bounds::is_written;
 use crate::cursor::same_section;
-use crate::extent::statement_end;
 use crate::names_used::{sum, uses};
 use crate::placed::{Placed, Step};
 use crate::statement::append_statement;
@@ -19,57 +18,6 @@ use cet_base::{Bytes, Items, NoMemory, Text};
 use cet_elf::{Class, Rela, RelaList, Section};
 use cet_syntax::{Directive, SectionName, Statement};
 use std::alloc::Global;
-
-// How many bytes a statement takes that stands at the offset.
-fn statement_size(alloc: Global, offset: u64, statement: &Statement<'_>) -> Result<u64, NoMemory>
-    ensures { IfOk result (λ size. size ≡ size_of offset statement.now) }
-{
-    if !is_written(statement) {
-        return Err(NoMemory);
-    }
-    match statement_end(alloc, offset, statement) {
-        Ok(end) => Ok(end.saturating_sub(offset)),
-        Err(_) => Err(NoMemory),
-    }
-}
-
-// How many bytes a statement in its place takes.
-fn step_size(alloc: Global, p: &Placed<'_>) -> Result<u64, NoMemory>
-    ensures { IfOk result (λ size. size ≡ step_size_of p.now) }
-{
-    match &p.step {
-        Step::Label(_) => Ok(0),
-        Step::States(statement) => statement_size(alloc, p.spot.offset, statement),
-    }
-}
-
-// How many bytes a statement takes in a section.
-fn size_within(alloc: Global, section: SectionName, p: &Placed<'_>) -> Result<u64, NoMemory>
-    ensures { IfOk result (λ size. size ≡ section_size_of section (p.now ∷ [])) }
-{
-    if same_section(p.spot.section, section) {
-        step_size(alloc, p)
-    } else {
-        Ok(0)
-    }
-}
-
-/// How many bytes a section has.
-pub(crate) fn section_size(
-    alloc: Global,
-    section: SectionName,
-    placed: &[Placed<'_>],
-) -> Result<u64, NoMemory>
-    ensures { IfOk result (λ size. size ≡ section_size_of section placed.now) }
-{
-    let mut size: u64 = 0;
-    for p in placed {
-        let more = size_within(alloc, section, p)?;
-        let next = sum(size, more)?;
-        size = next;
-    }
-    Ok(size)
-}
 
 // Adds the bytes of a statement.
 fn append_step<'a>(

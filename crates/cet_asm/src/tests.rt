@@ -10,7 +10,7 @@ mod objects;
 // The text has this many statements, and each stands.
 fn check_count(rt: &impl Abort, alloc: Global, text: &[u8], count: usize) {
     let found = match place(alloc, text) {
-        Ok(placed) => placed.len() == count,
+        Ok(placement) => placement.statements.len() == count,
         Err(_) => false,
     };
     assert!(rt; found, "{text:?}");

@@ -1,5 +1,6 @@
 //! Texts and their objects, written and read back; and texts with their first fault. Bytes, relocations and symbols are those that GNU as
-//! 2.40 makes of the same text in its own spelling, ordered by the rules of the text.
+//! 2.40 makes of the same text in its own spelling, ordered by the rules of the text. P, X and W are signal.s, one_context.s and fibers.s of examples/,
+//! which the tests of cet run.
 ghost use Rattle.std.specs.Prelude.{IfOk};
 ghost use Rattle.cet_elf.specs.Regular.{IsRegular};
 
