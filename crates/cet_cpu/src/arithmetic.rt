@@ -74,14 +74,6 @@ pub fn alu(
     operated(mem, regs, op, w, dst, y)
 }
 
-// A result to its register, if it goes anywhere.
-fn put_if(regs: Regs, goes: bool, w: Width, dst: Reg, v: u64) -> Regs
-    requires { v < 2 ^ bits w }
-    ensures { result ≡ (if goes then with_value regs dst (merged w (value regs dst) v) else regs) }
-{
-    if goes { put(regs, w, dst, v) } else { regs }
-}
-
 #[tactic(auto, unfolding(cet_machine::specs::ArithmeticInstructions::alu_load), using(cet_machine::proofs::Fits::alu_fits))]
 pub fn alu_load(
     mem: &Memory,

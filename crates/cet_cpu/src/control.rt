@@ -1,7 +1,6 @@
 //! Branches, CALL and RET (SDM volume 1, 5.1.7 and 6.4; with CET, "Control-flow Enforcement Technology (CET)").
-ghost use Rattle.std.specs.Prelude.{◌≡◌, ◌%◌, List, IsTrue, OnErr, ◌↔◌};
+ghost use Rattle.std.specs.Prelude.{◌≡◌, ◌%◌, List, IsTrue, OnErr};
 ghost use Rattle.cet_machine.specs.declared.memory.Region.{Region};
-ghost use Rattle.cet_machine.specs.Memory.{held};
 ghost use Rattle.cet_machine.specs.Machine.{displaced};
 ghost use Rattle.cet_machine.specs.ControlInstructions.{displacement, jmp, jcc, jmp_ind, endbr64, called, call, call_ind, checked, ret};
 ghost use Rattle.cet_cpu.specs.Answer.{machine, after};
@@ -79,16 +78,6 @@ pub fn endbr64(regs: Regs) -> Regs
     }
 }
 
-// Whether one region of this kind holds the 8 bytes at `a`.
-fn is_held(mem: &Memory, a: u64, kind: Kind) -> bool
-    ensures { IsTrue result ↔ (held mem.now a 8 ≡ Some kind) }
-{
-    match mem.held(a, 8) {
-        Some(found) => found == kind,
-        None => false,
-    }
-}
-
 // The next address on both stacks. Both words are looked for before the first is written, so that a fault finds memory as it was.
 fn called_on_both(mem: &mut Memory, regs: Regs, mode: Mode) -> Result<Regs, Fault>
     requires shstk { IsTrue mode.shstk }
@@ -97,11 +86,11 @@ fn called_on_both(mem: &mut Memory, regs: Regs, mode: Mode) -> Result<Regs, Faul
     ensures unchanged { OnErr result (mem.new ≡ mem.old) }
 {
     let data_top = value(&regs, Reg::Rsp).wrapping_sub(8);
-    if !is_held(mem, data_top, Kind::Write) {
+    if !mem.is_held(data_top, 8, Kind::Write) {
         return Err(Fault::Page { addr: data_top });
     }
     let shadow_top = regs.ssp.wrapping_sub(8);
-    if !is_held(mem, shadow_top, Kind::Shadow) {
+    if !mem.is_held(shadow_top, 8, Kind::Shadow) {
         return Err(Fault::Page { addr: shadow_top });
     }
     let on_data = pushed(mem, regs, regs.rip)?;

@@ -1,5 +1,5 @@
 //! The memory of a process: regions that do not meet, in order of address, and the loads, stores and fetches on them.
-//! It meets the definitions of memory in `cet_machine`: `load`, `store`, `fetched`, `held`, `fill` and `place` over a list of
+//! It meets the definitions of memory in `cet_machine`: `load`, `store`, `fetched`, `held`, `fill`, `place` and `legal` over a list of
 //! regions. Each access finds its region by binary search and copies nothing but its own bytes.
 #![tactic(auto)]
 

@@ -1,5 +1,5 @@
 //! The memory of a process.
-ghost use Rattle.std.specs.Prelude.{◌≡◌, ℕ, ◌<◌, ◌≤◌, ◌^◌, ◌++◌, ◌↔◌, [], length, drop, replicate, OnOk, OnErr, IfOk, IfErr, IfSome, MatchOption};
+ghost use Rattle.std.specs.Prelude.{◌≡◌, ℕ, ◌<◌, ◌≤◌, ◌^◌, ◌++◌, ◌↔◌, [], false, length, drop, replicate, IsTrue, OnOk, OnErr, IfOk, IfErr, IfSome, MatchOption};
 ghost use Rattle.std.specs.Option.{ok_or};
 ghost use Rattle.cet_machine.specs.Memory.{load, store, shadow_load, shadow_store, fetched, code_at, held, fill, place, legal, bytes_at, stored, is_any, is_write, is_range_of_pages, AreDisjoint};
 ghost use Rattle.cet_mem.specs.Access.{IsWidth};
@@ -31,10 +31,10 @@ pub struct Pf {
     pub addr: u64,
 }
 
-/// Why a region was not placed.
+/// Why a region was not added.
 #[derive(Clone, Copy, Debug, PartialEq, Eq)]
 pub enum MapError {
-    /// The range is no range of pages of user addresses, or a region has an address in it.
+    /// No region may be placed, or mapped, in the range.
     Illegal,
     /// There was no memory for it.
     NoMemory,
@@ -227,6 +227,17 @@ impl Memory {
         Some(block.kind())
     }
 
+    /// Whether one region of this kind holds all `len` bytes from `a` on. `len` is not 0.
+    pub fn is_held(&self, a: u64, len: u64, kind: Kind) -> bool
+        requires { 0 < len }
+        ensures { IsTrue result ↔ (held self.now a len ≡ Some kind) }
+    {
+        match self.held(a, len) {
+            Some(found) => found == kind,
+            None => false,
+        }
+    }
+
     /// Whether a system call may map the `len` bytes from `at`: whole pages, one at least, from 2^32 to 2^47, where no region has an address
     /// in them or in the 65,536 bytes on either side.
     pub fn legal(&self, at: u64, len: u64) -> bool
@@ -256,6 +267,19 @@ impl Memory {
             return Err(MapError::NoMemory);
         };
         Ok(())
+    }
+
+    /// Adds a region of `len` bytes 0 from `at` on, where a system call may map one. `Illegal` exactly where that is not `legal`. An error
+    /// leaves the memory as it was.
+    pub fn map(&mut self, at: u64, len: u64, kind: Kind) -> Result<(), MapError>
+        ensures ok { OnOk result (place self.old at len kind ≡ Some self.new) }
+        ensures illegal { (result ≡ Err MapError.Illegal) ↔ (legal self.old at len ≡ false) }
+        ensures unchanged { OnErr result (self.new ≡ self.old) }
+    {
+        if !self.legal(at, len) {
+            return Err(MapError::Illegal);
+        }
+        self.place(at, len, kind)
     }
 }
 

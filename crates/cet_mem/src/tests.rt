@@ -60,6 +60,14 @@ fn held(memory: &Memory, a: u64, n: u8) -> Option<Kind> {
     }
 }
 
+fn is_held(memory: &Memory, a: u64, n: u8, kind: Kind) -> bool {
+    match n {
+        1 => memory.is_held(a, 1, kind),
+        4 => memory.is_held(a, 4, kind),
+        _ => memory.is_held(a, 8, kind),
+    }
+}
+
 // The columns: an address, a width, and what holds the bytes there with the number that they are.
 #[test]
 fn accesses(rt: HostRuntime) {
@@ -97,6 +105,9 @@ fn accesses(rt: HostRuntime) {
         let kind = found.map(|(kind, _)| kind);
         assert_eq!(rt; load(&memory, a, n), number, "{a:#x}");
         assert_eq!(rt; held(&memory, a, n), kind, "{a:#x}");
+        for of in [Kind::Code, Kind::Read, Kind::Write, Kind::Shadow] {
+            assert_eq!(rt; is_held(&memory, a, n, of), kind == Some(of), "{a:#x}");
+        }
         let stored = store(&mut memory, a, n);
         let after = if kind == Some(Kind::Write) {
             assert_eq!(rt; stored, Ok(()), "{a:#x}");
@@ -274,20 +285,68 @@ fn pieces(rt: HostRuntime) {
 // The columns: a first address, a length, and whether a system call may map them.
 #[test]
 fn mappings(rt: HostRuntime) {
-    let memory = memory(rt.alloc()).expect(&rt, "memory");
     for (at, len, legal) in [
         (0x1_0000_0000, 0x1000, true),
+        (0x1_0000_0000, 0x10_0000, true),
         (0xffff_f000, 0x1000, false),
+        (0xffff_f000, 0x2000, false),
+        (0x5000, 0x1000, false),
+        (0, 0x1000, false),
         (0x1_0000_0001, 0x1000, false),
         (0x1_0000_0000, 0x1001, false),
         (0x1_0000_0000, 0, false),
         (SHADOW - 0x11000, 0x1000, true),
         (SHADOW - 0x10000, 0x1000, false),
         (SHADOW - 0x11000, 0x2000, false),
-        (0x7fff_ffff_f000 + 0x1000, 0x1000, false),
+        (SHADOW - 0x12000, 0x2000, true),
+        (SHADOW, 0x1000, false),
+        (SHADOW + 0x1000, 0x1000, false),
         (u64::MAX - 0xfff, 0x1000, false),
+        (u64::MAX - 0xffff, 0x1_0000, false),
         (0x1_0000_0000, u64::MAX - 0xfff, false),
     ] {
+        let mut memory = memory(rt.alloc()).expect(&rt, "memory");
         assert_eq!(rt; memory.legal(at, len), legal, "{at:#x}");
+        let mapped = if legal {
+            Ok(())
+        } else {
+            Err(MapError::Illegal)
+        };
+        assert_eq!(rt; memory.map(at, len, Kind::Write), mapped, "{at:#x}");
+        if legal {
+            assert_eq!(rt; memory.held(at, 0x1000), Some(Kind::Write), "{at:#x}");
+            assert_eq!(rt; memory.load(at, 8), Ok(0), "{at:#x}");
+        }
     }
+}
+
+// The columns: a first address, a length, and the answer to a mapping beside those before it.
+#[test]
+fn mappings_in_turn(rt: HostRuntime) {
+    let mut memory = Memory::new(rt.alloc());
+    let illegal = Err(MapError::Illegal);
+    for (at, len, answer) in [
+        (0x7fff_ffff_f000, 0x2000, illegal),
+        (0x7fff_ffff_f000, 0x1000, Ok(())),
+        (0xffff_f000, 0x1000, illegal),
+        (0x1_0000_0000, 0x3000, Ok(())),
+        (0x1_0000_0000, 0x3000, illegal),
+        (0x1_0000_3000, 0x1000, illegal),
+        (0x1_0001_2000, 0x1000, illegal),
+        (0x1_0001_3000, 0x1000, Ok(())),
+        (0x1_0003_5000, 0x1000, Ok(())),
+        (0x1_0002_4000, 0x2000, illegal),
+        (0x1_0002_3000, 0x1000, illegal),
+        (0x1_0002_4000, 0x1000, Ok(())),
+        (
+            0x1_0100_0000,
+            REGION_LIMIT + 0x1000,
+            Err(MapError::NoMemory),
+        ),
+        (0x1_0100_0000, 0x1000, Ok(())),
+    ] {
+        assert_eq!(rt; memory.map(at, len, Kind::Shadow), answer, "{at:#x}");
+    }
+    // `place` keeps no such distance
+    assert_eq!(rt; memory.place(0x1_0000_3000, 0x1000, Kind::Write), Ok(()));
 }
