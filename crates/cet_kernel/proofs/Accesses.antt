@@ -1,12 +1,12 @@
 -- What a system call reads and writes of memory, by what holds it.
-use Rattle.std.proofs.Common.{◌≡◌, ℕ, ◌+◌, ◌-◌, ◌%◌, ◌^◌, ◌<◌, ◌≤◌, inl, inr, Bool, true, false, not, ◌&&◌, ◌==◌, nat_lt, nat_le, List, [], ◌∷◌, ◌++◌, length, take, drop, Option, Some, None, is_some, unwrap_or, refl, sym, ap, subst, ◌∙◌, arith, append-nil, take-append-drop, take-take, add-zero, if◌then◌else◌}
+use Rattle.std.proofs.Common.{◌≡◌, ℕ, ◌+◌, ◌-◌, ◌%◌, ◌^◌, ◌≤◌, Bool, true, false, ◌&&◌, ◌==◌, nat_lt, nat_le, List, [], ◌∷◌, ◌++◌, take, drop, Option, Some, None, is_some, unwrap_or, refl, sym, ap, ◌∙◌, arith, append-nil, take-append-drop, add-zero, if◌then◌else◌}
 use Rattle.std.specs.Prelude.{◌↔◌, IsTrue}
 use Rattle.std.specs.Option.{option_and_then}
-use Rattle.std.proofs.lemmas.Bool.{cases_Bool, and_parts, eqb-true, leb-true}
+use Rattle.std.proofs.lemmas.Bool.{and_parts, eqb-true, leb-true}
 use Rattle.cet_machine.specs.declared.memory.Kind.{Kind}
 use Rattle.cet_machine.specs.declared.memory.Kind.TheVariants.{Code, Read, Write, Shadow}
 use Rattle.cet_machine.specs.declared.memory.Region.{Region}
-use Rattle.cet_machine.specs.Memory.{is_any, is_write, holds, held, region_holding, bytes_from, bytes_at, written, overwritten, with_bytes, stored, store, low_bytes, place, legal, gap, is_range_of_pages, is_free}
+use Rattle.cet_machine.specs.Memory.{is_write, holds, held, region_holding, bytes_from, bytes_at, written, overwritten, with_bytes, stored, store, low_bytes, legal, gap, is_range_of_pages, is_free}
 use Rattle.cet_machine.proofs.MemoryReads.{held_parts, held_is, bytes_is, held_where_stored, stored_where_held}
 
 -- ---- where a Write region holds an interval

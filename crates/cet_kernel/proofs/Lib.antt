@@ -1,11 +1,8 @@
 pub mod Accesses
 pub mod Called
-pub mod Delivery
-pub mod Frames
-pub mod Lists
 pub mod Living
+pub mod Mapped
 pub mod Placed
-pub mod Returns
 pub mod Shared
 pub mod Started
 pub mod States

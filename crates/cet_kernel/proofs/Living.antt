@@ -1,16 +1,16 @@
 -- A thread that lives goes on living through a system call that answers in rax.
 use Rattle.std.specs.Prelude.{IsSome}
-use Rattle.std.proofs.Common.{◌≡◌, ℕ, zero, suc, ◌+◌, Bool, true, false, not, ◌||◌, ◌==◌, nat_lt, nat_le, min, List, [], ◌∷◌, ◌++◌, length, take, drop, Option, Some, None, is_some, slice_get, refl, sym, ap, ◌∙◌, if◌then◌else◌}
+use Rattle.std.proofs.Common.{◌≡◌, ℕ, zero, suc, ◌+◌, Bool, true, false, not, ◌||◌, ◌==◌, nat_lt, nat_le, List, [], ◌∷◌, ◌++◌, length, Option, Some, is_some, slice_get, refl, ap, ◌∙◌, if◌then◌else◌}
 use Rattle.std.specs.Option.{option_and_then}
 use Rattle.cet_isa.specs.declared.register.Reg.TheVariants.{Rdx, Rsi, Rdi, R10}
 use Rattle.cet_isa.specs.declared.registers.Regs.{Regs}
-use Rattle.cet_machine.specs.declared.memory.Kind.TheVariants.{Write, Shadow}
+use Rattle.cet_machine.specs.declared.memory.Kind.TheVariants.{Shadow}
 use Rattle.cet_machine.specs.Memory.{legal}
 use Rattle.cet_machine.specs.Operand.{value}
 use Rattle.cet_machine.specs.Signal.{are_action_flags}
 use Rattle.cet_process.specs.State.{State, regs_of}
 use Rattle.cet_process.specs.Start.{page_above, shadow_stack_size}
-use Rattle.cet_process.specs.Call.{Answer, refused, is_readable, is_writable, with_mapping, output_limit, maps_private_memory, maps_shadow_stack, with_token, action_at, takes_action, thread_limit, child_regs, with_child, changes_features, read, write, mmap, map_shadow_stack, rt_sigaction, clone, arch_prctl, gettid, sched_yield}
+use Rattle.cet_process.specs.Call.{Answer, is_readable, is_writable, with_mapping, output_limit, maps_private_memory, maps_shadow_stack, with_token, action_at, takes_action, thread_limit, child_regs, with_child, changes_features, read, write, mmap, map_shadow_stack, rt_sigaction, clone, arch_prctl, gettid, sched_yield}
 use Rattle.cet_kernel.specs.Parts.{answer_of}
 use Rattle.cet_kernel.proofs.Threads.{lives}
 

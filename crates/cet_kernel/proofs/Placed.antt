@@ -1,12 +1,11 @@
 -- The pages of a segment, as they are put into memory: first zeros, then its bytes.
 use Rattle.std.specs.Prelude.{◌↔◌, IsTrue, OnOk, IfErr}
-use Rattle.std.proofs.Common.{Result, Ok, Err, ◌≡◌, ℕ, zero, suc, ◌+◌, ◌-◌, ◌*◌, ◌/◌, ◌%◌, ◌<◌, ◌≤◌, lit<, Bool, true, false, inl, inr, not, nat_le, List, [], ◌∷◌, ◌++◌, length, take, drop, map, slice_get, replicate, Option, Some, None, unwrap_or, refl, sym, ap, subst, ◌∙◌, arith, append_assoc, length-append, if◌then◌else◌}
+use Rattle.std.proofs.Common.{Result, Ok, Err, ◌≡◌, ℕ, zero, suc, ◌+◌, ◌-◌, ◌*◌, ◌/◌, ◌%◌, ◌<◌, ◌≤◌, lit<, Bool, true, false, inl, inr, not, nat_le, List, [], ◌∷◌, ◌++◌, length, take, drop, map, slice_get, replicate, Some, None, refl, sym, ap, subst, ◌∙◌, arith, append_assoc}
 use Rattle.std.specs.List.{find, fold, insert, count_by}
 use Rattle.std.proofs.Math.Nat.{div-mul-le_self, mod-add-div', mod-lt}
 use Rattle.std.proofs.lemmas.Bool.{cases_Bool, cond-true, cond-false, le-leb, not-true, not-false}
 use Rattle.std.proofs.lemmas.List.Sums.{fold-append}
-use Rattle.std.proofs.lemmas.List.{length-replicate, take-replicate, drop-replicate, replicate-append-replicate}
-use Rattle.cet_kernel.proofs.Lists.{take_past}
+use Rattle.std.proofs.lemmas.List.{length-replicate, take_all, take-replicate, drop-replicate, replicate-append-replicate}
 use Rattle.cet_rules.specs.declared.segment.Segment.{Segment}
 use Rattle.cet_rules.specs.Image.{contents_of}
 use Rattle.cet_rules.specs.Regular.{IsSegment}
@@ -165,5 +164,5 @@ placed_next segments i s M N there before now =
 pub all_placed : (segments : List Segment) (mode : Mode) (i : ℕ) (M N : List Region) → length segments ≤ i → M ≡ fold with_region [] (map region_of (take i segments))
     → N ≡ fold with_region M (stacks mode) → N ≡ fold with_region [] (map region_of segments ++ stacks mode)
 all_placed segments mode i M N all before now =
-    now ∙ ap (λ (K : List Region). fold with_region K (stacks mode)) (before ∙ ap (λ (l : List Segment). fold with_region [] (map region_of l)) (take_past segments i all))
+    now ∙ ap (λ (K : List Region). fold with_region K (stacks mode)) (before ∙ ap (λ (l : List Segment). fold with_region [] (map region_of l)) (take_all i segments all))
     ∙ sym (fold-append with_region [] (map region_of segments) (stacks mode))

@@ -1,13 +1,13 @@
 -- The first pair of segments that shares a page, found one after another.
-use Rattle.std.proofs.Common.{◌≡◌, ℕ, zero, suc, ◌+◌, ◌<◌, ◌≤◌, not, inl, inr, Bool, true, false, List, [], ◌∷◌, length, take, drop, slice_get, Option, Some, None, refl, sym, ap, ◌∙◌, arith}
+use Rattle.std.proofs.Common.{◌≡◌, ℕ, zero, suc, ◌+◌, ◌≤◌, not, inl, inr, Bool, true, false, List, [], ◌∷◌, length, take, drop, slice_get, Option, Some, None, refl, sym, ap, ◌∙◌, arith}
 use Rattle.std.specs.List.{find}
 use Rattle.std.proofs.lemmas.Bool.{cases_Bool, cond-true, cond-false}
-use Rattle.cet_kernel.proofs.Lists.{take_past}
+use Rattle.std.proofs.lemmas.List.{take_all}
 use Rattle.cet_rules.specs.declared.segment.Segment.{Segment}
 use Rattle.cet_rules.specs.declared.image.Image.{Image}
 use Rattle.cet_rules.specs.Regular.{IsSegment}
 use Rattle.cet_process.specs.declared.load_error.LoadError.{LoadError}
-use Rattle.cet_process.specs.declared.load_error.LoadError.TheVariants.{Place, Shared}
+use Rattle.cet_process.specs.declared.load_error.LoadError.TheVariants.{Place}
 use Rattle.cet_process.specs.Start.{share_a_page, is_in_place, misplaced_or, shared_or, first_shared, load_error}
 
 -- the one at place i is the first to pass
@@ -92,7 +92,7 @@ pub none_misplaced : (image : Image) (xs : List Segment) (i : ℕ) (r : Option L
     → r ≡ first_shared xs → r ≡ load_error image
 none_misplaced image xs i r of_image none all is =
     let no_one : find (λ s. not (is_in_place s)) image.segments ≡ None =
-    ap (find (λ s. not (is_in_place s))) (sym of_image ∙ sym (take_past xs i all)) ∙ none in
+    ap (find (λ s. not (is_in_place s))) (sym of_image ∙ sym (take_all i xs all)) ∙ none in
     is ∙ ap first_shared of_image ∙ sym (ap (λ (o : Option Segment). misplaced_or o (first_shared image.segments)) no_one)
 
 pub each_of_image : (image : Image) (xs : List Segment) → xs ≡ image.segments → (k : ℕ) (s : Segment) → slice_get xs k ≡ Some s → IsSegment s

@@ -1,5 +1,5 @@
 -- The process that an image is loaded to.
-use Rattle.std.proofs.Common.{◌≡◌, ℕ, List, [], ◌∷◌, replicate, Option, Some, None, refl, sym, ap, ◌∙◌}
+use Rattle.std.proofs.Common.{◌≡◌, ℕ, List, [], ◌∷◌, replicate, Some, None, sym, ap, ◌∙◌}
 use Rattle.cet_isa.specs.declared.registers.Regs.{Regs}
 use Rattle.cet_isa.specs.declared.registers.Mode.{Mode}
 use Rattle.cet_rules.specs.declared.image.Image.{Image}

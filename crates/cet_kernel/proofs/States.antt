@@ -1,6 +1,6 @@
 -- A process after one part of it has changed.
 use Rattle.std.specs.Prelude.{is_ok, if◌then◌else◌, IsSome, OnOk, OnErr, IfErr, vec_len, vec_capacity}
-use Rattle.std.proofs.Common.{◌≡◌, ℕ, ◌+◌, ◌-◌, ◌*◌, ◌^◌, ◌%◌, ◌<◌, ◌≤◌, Bool, true, false, min, not, ◌==◌, List, [], ◌∷◌, ◌++◌, length, take, drop, set, Option, Some, None, is_some, Result, Ok, Err, All, Vec, Global, unwrap_or, refl, sym, ap, subst, ◌∙◌, arith, pow_mono, drop-drop}
+use Rattle.std.proofs.Common.{◌≡◌, ℕ, ◌+◌, ◌-◌, ◌*◌, ◌^◌, ◌%◌, ◌<◌, ◌≤◌, true, false, min, ◌==◌, List, [], ◌∷◌, ◌++◌, length, take, drop, set, Option, Some, None, is_some, Result, Ok, Err, All, Vec, Global, unwrap_or, refl, sym, ap, subst, ◌∙◌, arith, pow_mono, drop-drop}
 use Rattle.std.specs.Vec.{with_item}
 use Rattle.std.specs.Int.{from_bool}
 use Rattle.std.specs.List.{list_all}
@@ -14,7 +14,8 @@ use Rattle.cet_mem.specs.declared.memory.Pf.{Pf}
 use Rattle.cet_process.specs.State.{State, regs_of, live_bits}
 use Rattle.cet_process.specs.Call.{Answer, thread_limit}
 use Rattle.cet_kernel.specs.declared.process.Process.TheInside.{Inside}
-use Rattle.cet_kernel.specs.Inside.{state_of, IsAligned, IsAlignedThread, IsSound}
+use Rattle.cet_signal.specs.Aligned.{IsAligned}
+use Rattle.cet_kernel.specs.Inside.{state_of, IsAlignedThread, IsSound}
 use Rattle.cet_kernel.specs.Parts.{taken, status_stored}
 use Rattle.cet_kernel.proofs.Threads.{thread_at, Lives, lives, live_same, live_less, live_bound, live_more, none_live}
 use Rattle.cet_kernel.proofs.Accesses.{nothing_stored, stored_there, stored_not}

@@ -1,15 +1,16 @@
 -- The threads of a process: which live, their bits, and that SSP is a multiple of 8 in each.
 use Rattle.std.specs.Prelude.{IfSome}
-use Rattle.std.proofs.Common.{◌≡◌, ℕ, zero, suc, ◌+◌, ◌*◌, ◌^◌, ◌<◌, ◌≤◌, Bool, true, false, ◌&&◌, ◌==◌, List, [], ◌∷◌, ◌++◌, length, set, slice_get, All, Option, Some, None, is_some, is_none, refl, sym, ap, subst, ◌∙◌, arith}
+use Rattle.std.proofs.Common.{◌≡◌, ℕ, zero, suc, ◌+◌, ◌*◌, ◌^◌, ◌<◌, ◌≤◌, Bool, true, false, ◌==◌, List, [], ◌∷◌, ◌++◌, length, set, slice_get, All, Option, Some, None, is_some, is_none, refl, sym, ap, subst, ◌∙◌, arith}
 use Rattle.std.specs.Int.{from_bool}
 use Rattle.std.specs.List.{list_all}
 use Rattle.std.specs.Option.{option_and_then}
 use Rattle.std.proofs.Math.Nat.{pow-suc}
 use Rattle.std.proofs.lemmas.Bool.{ne_eqb}
-use Rattle.std.proofs.lemmas.Option.{slice_get_within, slice_get_past, get_or_from_slice_get}
+use Rattle.std.proofs.lemmas.Option.{slice_get_within, get_or_from_slice_get}
 use Rattle.cet_isa.specs.declared.registers.Regs.{Regs}
 use Rattle.cet_process.specs.State.{live_bits}
-use Rattle.cet_kernel.specs.Inside.{IsAligned, IsAlignedThread}
+use Rattle.cet_signal.specs.Aligned.{IsAligned}
+use Rattle.cet_kernel.specs.Inside.{IsAlignedThread}
 
 -- the registers of a thread, if it lives
 abbrev pub thread_at : List (Option Regs) → ℕ → Option Regs

@@ -1,8 +1,9 @@
 -- What a process is seen as, and what holds of its parts: this project's own.
-use Rattle.std.specs.Prelude.{◌≡◌, ℕ, ◌%◌, ◌≤◌, length, drop, All, Option, Some, None, vec_capacity, vec_len}
+use Rattle.std.specs.Prelude.{◌≡◌, ◌≤◌, drop, All, Option, Some, None, vec_capacity, vec_len}
 use Rattle.cet_isa.specs.declared.registers.Regs.{Regs}
 use Rattle.cet_process.specs.State.{State, live_bits}
 use Rattle.cet_process.specs.Call.{output_limit, thread_limit}
+use Rattle.cet_signal.specs.Aligned.{IsAligned}
 use Rattle.cet_kernel.specs.declared.process.Process.TheInside.{Inside}
 
 -- the input that is left is what has not been read
@@ -17,10 +18,6 @@ state_of p = record {
   fresh = p.fresh;
   end = p.end;
 }
-
--- SSP is a multiple of 8
-abbrev pub IsAligned : Regs → Type 0
-IsAligned R = R.ssp % 8 ≡ 0
 
 abbrev pub IsAlignedThread : Option Regs → Type 0
 IsAlignedThread None = Unit {0}

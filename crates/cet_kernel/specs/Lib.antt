@@ -1,4 +1,4 @@
 pub mod Errors
 pub mod Inside
+pub mod Mapped
 pub mod Parts
-pub mod Room

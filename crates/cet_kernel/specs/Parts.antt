@@ -1,10 +1,8 @@
 -- Parts of the definitions of system calls, as single methods compute them.
 use Rattle.std.specs.Prelude.{ℕ, ◌-◌, nat_le, min, length, take, drop, ◌++◌, not, ◌==◌, if◌then◌else◌, unwrap_or}
 use Rattle.std.specs.Int.{from_bool}
-use Rattle.cet_isa.specs.declared.register.Reg.TheVariants.{Rax}
 use Rattle.cet_isa.specs.declared.registers.Regs.{Regs}
 use Rattle.cet_machine.specs.Memory.{store}
-use Rattle.cet_machine.specs.Operand.{value}
 use Rattle.cet_process.specs.State.{State}
 use Rattle.cet_process.specs.Call.{Answer, refused, efault, enospc, enosys, is_readable, is_writable, buffer, with_buffer, output_limit, read, write, mmap, rt_sigaction, sched_yield, clone, arch_prctl, gettid, map_shadow_stack}
 

@@ -3,18 +3,19 @@
 ghost use Rattle.std.specs.Prelude.{◌≡◌, ◌-◌, ◌^◌, ◌≤◌, true, false, length, take, slice_index, MatchOption, IfOk, OnErr};
 ghost use Rattle.cet_machine.specs.Signal.{are_action_flags, words_of_bytes};
 ghost use Rattle.cet_process.specs.Call.{read, write, mmap, maps_private_memory, map_shadow_stack, maps_shadow_stack, rt_sigaction, takes_action, registered, action_at, is_readable, clone, child_regs, arch_prctl};
+ghost use Rattle.cet_signal.specs.Aligned.{IsAligned};
 ghost use Rattle.cet_kernel.specs.Errors.{number_of};
-ghost use Rattle.cet_kernel.specs.Inside.{IsAligned};
+ghost use Rattle.cet_kernel.specs.Mapped.{AddsRegion};
 ghost use Rattle.cet_kernel.specs.Parts.{answer_of};
 
 use crate::layout::{SHADOW_STACK_SIZE, page_above};
 use crate::process::{Process, SIGNALS, THREAD_LIMIT};
-use crate::signals::word_of;
 use cet_base::NoMemory;
 use cet_cpu::{value, with_value};
 use cet_isa::{Reg, Regs};
 use cet_machine::Action;
 use cet_mem::Kind;
+use cet_signal::word_of;
 
 /// Why a call is refused (Linux, include/uapi/asm-generic/errno-base.h and errno.h).
 #[derive(Clone, Copy, Debug, PartialEq, Eq)]
@@ -210,9 +211,10 @@ impl Process {
     }
 
     /// 9: private memory at `at`.
-    #[tactic(auto, unfolding(cet_process::specs::Call::mmap))]
+    #[tactic(auto, unfolding(cet_process::specs::Call::mmap), using(crate::proofs::Mapped::mapping_adds))]
     fn mmap(&mut self, at: u64, regs: &Regs) -> Result<u64, NoMemory>
         ensures done { IfOk result (λ rax. (self.new, rax) ≡ mmap at regs.now self.old) }
+        ensures maps { OnErr result (AddsRegion self.old (mmap at regs.now self.old).0) }
         ensures unchanged { OnErr result (self.new ≡ self.old) }
     {
         if !maps_private_memory(regs) {
@@ -227,9 +229,10 @@ impl Process {
     }
 
     /// 453: a shadow stack at `at`, with a restore token in its top word where that is asked for.
-    #[tactic(auto, unfolding(cet_process::specs::Call::map_shadow_stack))]
+    #[tactic(auto, unfolding(cet_process::specs::Call::map_shadow_stack), using(crate::proofs::Mapped::shadow_stack_adds))]
     fn map_shadow_stack(&mut self, at: u64, regs: &Regs) -> Result<u64, NoMemory>
         ensures done { IfOk result (λ rax. (self.new, rax) ≡ map_shadow_stack at regs.now self.old) }
+        ensures maps { OnErr result (AddsRegion self.old (map_shadow_stack at regs.now self.old).0) }
         ensures unchanged { OnErr result (self.new ≡ self.old) }
     {
         let len = value(regs, Reg::Rsi);
@@ -285,10 +288,11 @@ impl Process {
     }
 
     /// 56: one more thread, with SHSTK a shadow stack for it at `at`.
-    #[tactic(auto, unfolding(cet_process::specs::Call::clone, cet_process::specs::Start::shadow_stack_size))]
+    #[tactic(auto, unfolding(cet_process::specs::Call::clone, cet_process::specs::Start::shadow_stack_size), using(crate::proofs::Mapped::mapping_adds))]
     fn clone_thread(&mut self, at: u64, regs: &Regs) -> Result<u64, NoMemory>
         requires { IsAligned regs.now }
         ensures done { IfOk result (λ rax. (self.new, rax) ≡ clone at regs.now self.old) }
+        ensures maps { OnErr result (AddsRegion self.old (clone at regs.now self.old).0) }
         ensures unchanged { OnErr result (self.new ≡ self.old) }
     {
         if value(regs, Reg::Rdi) != CLONE_FLAGS || value(regs, Reg::Rsi) == 0 {
@@ -340,6 +344,7 @@ impl Process {
     ) -> Result<u64, NoMemory>
         requires { IsAligned regs.now }
         ensures done { IfOk result (λ rax. (self.new, rax) ≡ answer_of number thread answer regs.now self.old) }
+        ensures maps { OnErr result (AddsRegion self.old (answer_of number thread answer regs.now self.old).0) }
         ensures unchanged { OnErr result (self.new ≡ self.old) }
     {
         match number {

@@ -7,14 +7,15 @@ ghost use Rattle.cet_machine.specs.Signal.{sigreturn};
 ghost use Rattle.cet_cpu.specs.Answer.{machine};
 ghost use Rattle.cet_process.specs.State.{action_of};
 ghost use Rattle.cet_process.specs.After.{after, after_step, after_signal, called, died, exited, exit, exit_group, rt_sigreturn};
-ghost use Rattle.cet_kernel.specs.Inside.{IsAligned};
+ghost use Rattle.cet_signal.specs.Aligned.{IsAligned};
+ghost use Rattle.cet_kernel.specs.Mapped.{AddsRegion};
 
 use crate::process::Process;
-use crate::signals::sigreturn;
 use cet_base::NoMemory;
 use cet_cpu::{StepEnd, value, with_value};
 use cet_isa::{Fault, Reg, Regs};
 use cet_process::{Event, Outcome};
+use cet_signal::sigreturn;
 
 /// The call numbers that do not answer in rax.
 const RT_SIGRETURN: u64 = 15;
@@ -24,11 +25,12 @@ const EXIT: u64 = 60;
 const EXIT_GROUP: u64 = 231;
 
 impl Process {
-    /// What an event does, and what it comes to. After the process has ended, every event is `Ignored`. An event that maps nothing takes no memory.
-    /// Where memory is short, nothing has changed.
+    /// What an event does, and what it comes to. After the process has ended, every event is `Ignored`. Only an event that adds a region takes
+    /// memory. Where it is short, nothing has changed.
     #[tactic(auto, unfolding(cet_process::specs::After::after))]
     pub fn apply(&mut self, event: Event) -> Result<Outcome, NoMemory>
         ensures done { IfOk result (λ outcome. (self.new, outcome) ≡ after self.old event) }
+        ensures maps { OnErr result (AddsRegion self.old (after self.old event).0) }
         ensures unchanged { OnErr result (self.new ≡ self.old) }
     {
         if self.ended().is_some() {
@@ -109,6 +111,7 @@ impl Process {
         requires lives { IsSome (regs_of self.old thread) }
         requires aligned { IsAligned regs.now }
         ensures done { IfOk result (λ outcome. (self.new, outcome) ≡ called thread answer before.now regs.now self.old) }
+        ensures maps { OnErr result (AddsRegion self.old (called thread answer before.now regs.now self.old).0) }
         ensures unchanged { OnErr result (self.new ≡ self.old) }
     {
         let number = value(regs, Reg::Rax);
@@ -128,6 +131,7 @@ impl Process {
 
     fn step_event(&mut self, thread: u32, free: u8, answer: u64) -> Result<Outcome, NoMemory>
         ensures done { IfOk result (λ outcome. (self.new, outcome) ≡ after_step thread free answer (regs_of self.old thread) self.old) }
+        ensures maps { OnErr result (AddsRegion self.old (after_step thread free answer (regs_of self.old thread) self.old).0) }
         ensures unchanged { OnErr result (self.new ≡ self.old) }
     {
         let Some(before) = self.regs_of(thread) else {

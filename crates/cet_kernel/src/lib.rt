@@ -8,7 +8,6 @@ mod events;
 mod layout;
 mod loading;
 mod process;
-mod signals;
 #[cfg(test)]
 mod tests;
 

@@ -4,8 +4,8 @@ ghost use Rattle.std.specs.Prelude.{◌≡◌, ◌⊎◌, ◌++◌, Some, IfOk, 
 ghost use Rattle.cet_machine.specs.Memory.{with_region};
 ghost use Rattle.cet_rules.specs.Regular.{IsSegment};
 ghost use Rattle.cet_process.specs.Start.{start, load_error, first_regs, region_of, loaded_memory, stacks};
+ghost use Rattle.cet_signal.specs.Aligned.{IsAligned};
 ghost use Rattle.std.specs.List.{fold};
-ghost use Rattle.cet_kernel.specs.Inside.{IsAligned};
 
 use crate::layout::{
     SHADOW_STACK_SIZE, SHADOW_STACK_START, STACK_SIZE, STACK_START, end_of_pages, first_page,
@@ -89,8 +89,9 @@ fn place_stacks(memory: &mut Memory, mode: Mode) -> Result<(), NoMemory>
     Ok(())
 }
 
-/// The process that an image is loaded to, with all of `input` left. `Place` names the first segment whose pages are not all within 4,096 to
-/// 2^32 - 65,536; `Shared`, where there is none, the first two that share a page, by the first and then by the second.
+/// The process that an image is loaded to, with all of `input` left. `Place` names the first segment whose first page starts below 4,096 or whose last
+/// one ends above 2^32 - 65,536, and `Shared`, where no segment is so, the first pair with a page in common; pairs go by their first segment, then by
+/// their second.
 #[tactic(auto, unfolding(cet_process::specs::Start::start))]
 pub fn load(alloc: Global, image: &Image, input: &[u8]) -> Result<Process, LoadError>
     ensures loaded { IfOk result (λ process. start image.now input.now ≡ Some process) }

@@ -1,5 +1,5 @@
 //! A process: its memory, its threads, and what the kernel keeps of it. What changes it changes one part, and stands for one part of a definition.
-ghost use Rattle.std.specs.Prelude.{◌≡◌, ℕ, ◌+◌, ◌-◌, ◌%◌, ◌^◌, ◌<◌, ◌≤◌, ◌++◌, ◌∷◌, [], length, replicate, slice_set, IsSome, OnSome, IfSome, IfOk, OnErr, IsTrue, Some, None, if◌then◌else◌};
+ghost use Rattle.std.specs.Prelude.{◌≡◌, ℕ, ◌+◌, ◌-◌, ◌%◌, ◌^◌, ◌<◌, ◌≤◌, ◌++◌, ◌∷◌, [], length, replicate, slice_set, IsSome, OnSome, IfSome, IfOk, OnErr, IsTrue, Some, None, true, if◌then◌else◌};
 ghost use Rattle.std.specs.List.{list_all};
 ghost use Rattle.std.specs.Option.{is_none};
 ghost use Rattle.cet_machine.specs.Memory.{legal};
@@ -9,12 +9,11 @@ ghost use Rattle.cet_cpu.specs.Answer.{machine, after as after_call, ended as en
 ghost use Rattle.cet_process.specs.State.{view, regs_of, action_of, with_thread};
 ghost use Rattle.cet_process.specs.Call.{is_writable, with_mapping, with_child, with_token, thread_limit};
 ghost use Rattle.cet_process.specs.After.{ended};
-ghost use Rattle.cet_kernel.specs.Inside.{IsAligned};
+ghost use Rattle.cet_signal.specs.Aligned.{IsAligned};
 ghost use Rattle.cet_kernel.specs.Parts.{taken, appended, status_stored};
 
 use crate::calls::{Error, refused};
 use crate::layout::{FIRST_FRESH, GAP};
-use crate::signals::{deliver, is_held};
 use cet_base::NoMemory;
 use cet_cpu::{StepEnd, step};
 use cet_isa::{Fault, Mode, Regs};
@@ -22,6 +21,7 @@ use cet_machine::Action;
 use cet_mem::{Kind, MapError, Memory};
 use cet_process::{Outcome, View};
 use cet_shadow::set_token;
+use cet_signal::deliver;
 use std::alloc::Global;
 use std::marker::Model;
 
@@ -248,7 +248,7 @@ impl Process {
         requires { 0 < n }
         ensures { result ≡ is_writable self.now a n }
     {
-        is_held(&self.memory, a, n, Kind::Write)
+        self.memory.held(a, n) == Some(Kind::Write)
     }
 
     /// Moves as much of the input as is left, and `most` bytes at most, to `a`, where a Write region holds them. It answers how many.
@@ -297,20 +297,18 @@ impl Process {
     pub(crate) fn map(&mut self, at: u64, len: u64, kind: Kind) -> Result<bool, NoMemory>
         ensures legal { IfOk result (λ mapped. mapped ≡ legal self.old.memory at len) }
         ensures done { IfOk result (λ mapped. self.new ≡ (if mapped then with_mapping at len kind self.old else self.old)) }
+        ensures maps { OnErr result (legal self.old.memory at len ≡ true) }
         ensures unchanged { OnErr result (self.new ≡ self.old) }
         ensures end { IfOk result (λ mapped. IsTrue mapped → at + len ≤ 2 ^ 47) }
         ensures aligned { IfOk result (λ mapped. IsTrue mapped → (at + len) % 8 ≡ 0) }
     {
-        if !self.memory.legal(at, len) {
-            return Ok(false);
-        }
-        match self.memory.place(at, len, kind) {
+        match self.memory.map(at, len, kind) {
             Ok(()) => {
                 self.fresh = self.fresh.max(at + len + GAP);
                 Ok(true)
             }
+            Err(MapError::Illegal) => Ok(false),
             Err(MapError::NoMemory) => Err(NoMemory),
-            Err(MapError::Illegal) => unreachable!(),
         }
     }
 

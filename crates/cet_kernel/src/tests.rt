@@ -1,6 +1,7 @@
 //! Processes from `load` on, event by event. A row is a list of acts over one program, and of what holds after them. The code is what GNU as makes
 //! of the text above it; what comes of it follows from the SDM, Linux's manual pages of the calls, its errno.h and its user shadow stack
 //! document, and for this project's own parts from docs/machine.md.
+mod contexts;
 mod files;
 mod images;
 mod mappings;
@@ -269,11 +270,16 @@ fn process(
 }
 
 /// The process of an image of two segments without a byte in common.
-fn process_of_two(alloc: Global, first: Segment, second: Segment) -> Result<Process, Stop>
+fn process_of_two(
+    alloc: Global,
+    first: Segment,
+    second: Segment,
+    entry: u64,
+    features: Features,
+) -> Result<Process, Stop>
     requires first { IsSegment first }
     requires second { IsSegment second }
 {
-    let entry = first.start;
     if first.start + first.size > second.start && second.start + second.size > first.start {
         return Err(Stop::Bytes);
     }
@@ -285,7 +291,7 @@ fn process_of_two(alloc: Global, first: Segment, second: Segment) -> Result<Proc
         functions: FunctionList::new(alloc),
         slots: None,
         entry,
-        features: Features::empty(),
+        features,
     };
     Ok(load(alloc, &image, b"")?)
 }
@@ -455,12 +461,38 @@ fn loads(rt: HostRuntime) -> Result<(), Fail> {
     for (first, second, error, facts) in images::PAIRS {
         let low = segment(rt.alloc(), first.0, first.1, Kind::Read, b"a")?;
         let high = segment(rt.alloc(), second.0, second.1, Kind::Write, b"b")?;
-        let loaded = process_of_two(rt.alloc(), low, high);
+        let loaded = process_of_two(rt.alloc(), low, high, first.0, Features::empty());
         assert!(rt;
             ends_so(loaded, *error, facts),
             "the segment at {:#x}",
             first.0
         );
+    }
+    Ok(())
+}
+
+// Who takes the one context has its address in rax, the other 0.
+#[test]
+fn one_context(rt: HostRuntime) -> Result<(), Fail> {
+    for acts in contexts::ORDERS {
+        let size = contexts::CODE.len() as u64;
+        let code = segment(rt.alloc(), START, size, Kind::Code, contexts::CODE)?;
+        let slots = segment(
+            rt.alloc(),
+            contexts::SLOTS,
+            contexts::SLOTS_SIZE,
+            Kind::Write,
+            b"",
+        )?;
+        let mut process = process_of_two(
+            rt.alloc(),
+            code,
+            slots,
+            contexts::ENTRY,
+            Features::all(),
+        )?;
+        let wrong = first_wrong(&mut process, acts);
+        assert_eq!(rt; wrong, None);
     }
     Ok(())
 }

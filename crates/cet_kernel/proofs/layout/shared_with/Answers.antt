@@ -1,6 +1,5 @@
-use Rattle.std.proofs.Common.{◌≡◌, ℕ, ◌+◌, ◌-◌, ◌<◌, ◌≤◌, true, false, Some, None, Ok, Err, length, refl, sym, ap, subst, ◌∙◌, arith}
+use Rattle.std.proofs.Common.{None, length, refl, sym, ap, ◌∙◌}
 use Rattle.std.proofs.lemmas.Option.{slice_get_read}
-use Rattle.cet_process.specs.declared.load_error.LoadError.TheVariants.{Shared}
 use Rattle.cet_process.specs.Start.{share_a_page, shared_or}
 use Rattle.cet_kernel.proofs.Shared.{find_here, find_none_more}
 use Rattle.cet_kernel.proofs.layout.shared_with.Goals as goal

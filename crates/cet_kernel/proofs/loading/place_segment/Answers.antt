@@ -1,6 +1,6 @@
-use Rattle.std.proofs.Common.{◌≡◌, ℕ, ◌+◌, ◌-◌, ◌*◌, ◌<◌, ◌≤◌, true, false, List, [], ◌∷◌, ◌++◌, take, drop, get_or, Some, None, Ok, Err, length, refl, sym, ap, subst, ◌∙◌, arith}
+use Rattle.std.proofs.Common.{ℕ, ◌-◌, ap, ◌∙◌}
 use Rattle.cet_process.specs.Start.{end_of_pages}
-use Rattle.cet_kernel.proofs.Placed.{ArePages, filled_now, unfilled_now}
+use Rattle.cet_kernel.proofs.Placed.{filled_now, unfilled_now}
 use Rattle.cet_kernel.proofs.loading.place_segment.Goals as goal
 
 pub returns-then-not-is_empty : goal.returns-then-not-is_empty

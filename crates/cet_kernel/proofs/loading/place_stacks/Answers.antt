@@ -1,4 +1,3 @@
-use Rattle.std.proofs.Common.{◌≡◌, ℕ, ◌+◌, ◌-◌, ◌<◌, ◌≤◌, true, false, Some, None, Ok, Err, length, refl, sym, ap, subst, ◌∙◌, arith}
 use Rattle.cet_process.specs.Start.{stack_size, shadow_stack_size}
 use Rattle.cet_kernel.proofs.Placed.{stack_placed, stacks_placed}
 use Rattle.cet_kernel.proofs.loading.place_stacks.Goals as goal

@@ -1,5 +1,4 @@
-use Rattle.std.proofs.Common.{◌≡◌, ℕ, ◌+◌, ◌-◌, ◌*◌, ◌<◌, ◌≤◌, true, false, List, [], ◌∷◌, ◌++◌, take, drop, get_or, Some, None, Ok, Err, length, refl, sym, ap, subst, ◌∙◌, arith}
-use Rattle.std.specs.Prelude.{drop}
+use Rattle.std.proofs.Common.{refl}
 use Rattle.cet_kernel.proofs.process.Process.new.Goals as goal
 
 pub returns : goal.returns

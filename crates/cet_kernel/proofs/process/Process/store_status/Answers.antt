@@ -1,4 +1,4 @@
-use Rattle.std.proofs.Common.{◌≡◌, ℕ, ◌+◌, ◌-◌, ◌*◌, ◌<◌, ◌≤◌, true, false, List, [], ◌∷◌, ◌++◌, take, drop, get_or, Some, None, Ok, Err, length, refl, sym, ap, subst, ◌∙◌, arith}
+use Rattle.std.proofs.Common.{◌∙◌}
 use Rattle.cet_kernel.proofs.States.{status_done, status_refused}
 use Rattle.cet_kernel.proofs.process.Process.store_status.Goals.{in-Ok, in-Err}
 use Rattle.cet_kernel.proofs.process.Process.store_status.Goals as goal

@@ -1,7 +1,5 @@
-use Rattle.std.proofs.Common.{◌≡◌, ℕ, ◌+◌, ◌-◌, ◌*◌, ◌<◌, ◌≤◌, true, false, List, [], ◌∷◌, ◌++◌, take, drop, get_or, Some, None, Ok, Err, length, refl, sym, ap, subst, ◌∙◌, arith}
+use Rattle.std.proofs.Common.{◌+◌, ap, ◌∙◌}
 use Rattle.cet_kernel.specs.Inside.{state_of}
-use Rattle.cet_kernel.specs.Parts.{taken}
-use Rattle.cet_process.specs.Call.{Answer}
 use Rattle.cet_kernel.specs.declared.process.Process.TheInside.{Inside}
 use Rattle.cet_kernel.proofs.States.{taken_some, taken_none}
 use Rattle.cet_kernel.proofs.process.Process.take_input.Goals.{then-count-gt0, else-count-gt0}

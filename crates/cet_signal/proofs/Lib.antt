@@ -1,0 +1,7 @@
+pub mod Frames
+pub mod FrameWords
+pub mod Delivered
+pub mod Returned
+pub mod Kept
+pub mod Returns
+pub mod Room
