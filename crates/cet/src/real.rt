@@ -46,9 +46,9 @@ fn create_beside<R: rt::Files + AllocGlobal>(
     Err(io::Error::from(ErrorKind::AlreadyExists))
 }
 
-// Whether an ELF file of these bytes is an executable: its e_type is ET_EXEC.
+// Whether the bytes are an ELF file whose e_type, the two bytes at 16, is ET_EXEC.
 fn is_program(bytes: &[u8]) -> bool {
-    bytes.starts_with(b"\x7fELF") && bytes.get(16) == Some(&2)
+    bytes.starts_with(b"\x7fELF") && bytes.get(16) == Some(&2) && bytes.get(17) == Some(&0)
 }
 
 // Gives a new file its bytes and these permissions, or keeps its own, and waits until the disk has them. Those who may read an executable may run it.

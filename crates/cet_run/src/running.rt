@@ -12,7 +12,7 @@ use cet_kernel::Process;
 use cet_process::{Event, Outcome, View};
 use std::alloc::Global;
 
-/// The most events of a report, which takes less than 1 GiB. Where a run has more, that is want of memory.
+/// The most events of a report, which takes less than 1 GiB. Where a run has one more, that is want of memory.
 const MOST_EVENTS: usize = 8_388_608;
 
 /// The next event: the given one of this index, or else that of the last chooser that has one.
@@ -67,13 +67,13 @@ fn apply_all<C: Chooser, W: Watcher>(
     ensures untouched { OnOk result (events.new ≡ [] → watchers.new.items ≡ watchers.old.items) }
 {
     for index in 0..limit as usize {
-        if index == MOST_EVENTS {
-            return Err(NoMemory);
-        }
         let turned = turn(process, given, index, choosers)?;
         match turned {
             None => return Ok(()),
             Some(done) => {
+                if index == MOST_EVENTS {
+                    return Err(NoMemory);
+                }
                 show(watchers, done.event, done.outcome);
                 events.push(done)?;
             }
@@ -94,10 +94,10 @@ fn last_of(end: Option<Outcome>, applied: usize, limit: u32) -> RunEnd
     }
 }
 
-/// Runs a process: the given events are applied, then what the first chooser answers. A chooser that answers `None` is dropped, and the next one takes
-/// over. After each event each watcher sees it with its outcome, in order; those that have seen enough are dropped, and the others stay in the
-/// list. It ends where the process ends, where `limit` events were applied, or where no chooser is left. The report has each event with its outcome,
-/// in order. A run of more than 8,388,608 events answers `NoMemory`, after which nothing is said of the watchers.
+/// Runs a process to its end, to `limit` events, or to where the given events are used and no chooser is left. The given events come first, then those
+/// of the first chooser; one without a further event makes room for the next and is dropped. The watchers are shown every event and what it came to, in
+/// the order of the list, which loses those that have enough. The report lists the events with their outcomes. A run of more than 8,388,608 events
+/// answers `NoMemory`, after which nothing is said of the watchers.
 pub fn run_with<C: Chooser, W: Watcher>(
     alloc: Global,
     mut process: Process,

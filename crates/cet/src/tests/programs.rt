@@ -1,4 +1,5 @@
-//! Assembly texts that are assembled, linked and run, with schedules. Events and addresses follow from the written sequences of the texts.
+//! Assembly texts that are assembled, linked and run, with schedules. Events and addresses follow from the written sequences of the texts. P, X and W
+//! are signal.s, one_context.s and fibers.s of examples/; the objects of all three stand in cet_asm's tests.
 use super::*;
 
 // Registers a signal action, calls a function through a register, and ends.
