@@ -1,4 +1,5 @@
 # Threads, fibers, a signal, a throw past 300 frames and two branch tables. Its main thread writes `done`.
+# Program W of the tests in crates/cet/src/tests/programs.rt and crates/cet_asm/src/tests/objects.rt.
 .note ibt shstk
 .global _start
 

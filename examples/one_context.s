@@ -1,4 +1,5 @@
 # One context, and two threads that try to take it. The one that takes it goes on at `fib`, the other behind its `switch`: each at a UD2.
+# Program X of the tests in crates/cet/src/tests/programs.rt and crates/cet_asm/src/tests/objects.rt.
 .note ibt shstk
 .global _start
 

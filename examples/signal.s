@@ -1,4 +1,5 @@
 # Registers a signal action, calls a function through a register, and ends with status 0.
+# Program P of the tests in crates/cet/src/tests/programs.rt and crates/cet_asm/src/tests/objects.rt.
 .note ibt shstk
 .global _start
 
