@@ -1,0 +1,4 @@
+# There is no width of 2 bytes.
+.func _start
+    mov.2 rax, rbx
+.end
