@@ -2,6 +2,10 @@
 ghost use Rattle.std.specs.Prelude.{◌<◌, ◌^◌};
 ghost use Rattle.cet_machine.specs.Arithmetic.{bits};
 
+mod products;
+mod shifts;
+mod sums;
+
 use crate::word::{cut, free_flags};
 use crate::{alu, div, holds, imul, mul, shift, unary};
 use cet_isa::AluOp::{Adc, Add, And, Cmp, Or, Sbb, Sub, Xor};
@@ -15,6 +19,8 @@ const MAX: u64 = 0xffff_ffff_ffff_ffff;
 const TOP: u64 = 0x8000_0000_0000_0000;
 
 const BELOW: u64 = 0x7fff_ffff_ffff_ffff;
+
+const WIDTHS: [Width; 3] = [B1, B4, B8];
 
 /// x, y, the flags before; the result, the flags after.
 fn alu_rows() -> &'static [(AluOp, Width, u64, u64, u8, u64, u8)] {
@@ -392,6 +398,20 @@ fn operand(w: Width, x: u64) -> u64
     ensures { result < 2 ^ bits w }
 {
     cut(w, u128::from(x))
+}
+
+/// The operand that is written like `x`: with its first hexadecimal digit, and with as many of its last ones as there is room for. At each width a
+/// bound is like the one of 64 bits, and a processor answers alike.
+fn alike(w: Width, x: u64) -> u64
+    ensures { result < 2 ^ bits w }
+{
+    let first = x >> 60;
+    let n = match w {
+        B1 => first << 4 | x & 0xf,
+        B4 => first << 28 | x & 0xfff_ffff,
+        B8 => x,
+    };
+    operand(w, n)
 }
 
 #[test]
