@@ -1,9 +1,19 @@
 //! Each public call with ample memory, at the bounds of regions of each kind.
+ghost use Rattle.std.specs.Prelude.{◌<◌, length};
+
+mod kinds;
+mod regions;
+
 use crate::{Kind, MapError, Memory, Pf, REGION_LIMIT};
 use std::alloc::Global;
 
 // Each region of the tests has a page, and begins and ends with these bytes. The numbers below are those of Python's `struct`.
 const EDGE: &[u8; 8] = b"\x01\x23\x45\x67\x89\xab\xcd\xef";
+
+/// The word that they are.
+const EDGE_WORD: u64 = 0xefcd_ab89_6745_2301;
+
+const KINDS: [Kind; 4] = [Kind::Code, Kind::Read, Kind::Write, Kind::Shadow];
 
 const CODE: u64 = 0x1000;
 
@@ -26,14 +36,19 @@ fn memory(alloc: Global) -> Result<Memory, MapError> {
         (SHADOW, Kind::Shadow),
         (READ, Kind::Read),
     ] {
-        memory.place(at, 4096, kind)?;
-        let first = memory.fill(at, EDGE);
-        let last = memory.fill(at | 0xff8, EDGE);
-        if first.is_err() || last.is_err() {
-            return Err(MapError::Illegal);
-        }
+        add_page(&mut memory, at, kind)?;
     }
     Ok(memory)
+}
+
+fn add_page(memory: &mut Memory, at: u64, kind: Kind) -> Result<(), MapError> {
+    memory.place(at, 4096, kind)?;
+    let first = memory.fill(at, EDGE);
+    let last = memory.fill(at | 0xff8, EDGE);
+    if first.is_err() || last.is_err() {
+        return Err(MapError::Illegal);
+    }
+    Ok(())
 }
 
 fn load(memory: &Memory, a: u64, n: u8) -> Result<u64, Pf> {
@@ -49,6 +64,17 @@ fn store(memory: &mut Memory, a: u64, n: u8) -> Result<(), Pf> {
         1 => memory.store(a, 1, STORED),
         4 => memory.store(a, 4, STORED),
         _ => memory.store(a, 8, STORED),
+    }
+}
+
+/// What `store` writes.
+fn stored_bytes(n: u8) -> &'static [u8]
+    ensures { 0 < length result.now }
+{
+    match n {
+        1 => b"\x88".as_slice(),
+        4 => b"\x88\x77\x66\x55".as_slice(),
+        _ => b"\x88\x77\x66\x55\x44\x33\x22\x11".as_slice(),
     }
 }
 
