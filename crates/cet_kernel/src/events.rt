@@ -91,8 +91,9 @@ impl Process {
         requires aligned { IsAligned regs.now }
         ensures { (self.new, result) ≡ rt_sigreturn thread before.now (sigreturn self.old.mode (machine self.old.memory regs.now)) self.old }
     {
-        match sigreturn(self.memory(), regs, self.mode()) {
-            Ok(restored) => {
+        let mut restored = *regs;
+        match sigreturn(self.memory(), &mut restored, self.mode()) {
+            Ok(()) => {
                 self.set_regs(thread, &restored);
                 Outcome::Ran
             }
@@ -154,21 +155,22 @@ impl Process {
     fn signal_event(&mut self, thread: u32, signo: u32) -> Outcome
         ensures { (self.new, result) ≡ after_signal thread signo (regs_of self.old thread) (action_of self.old signo) self.old }
     {
-        let Some(regs) = self.regs_of(thread) else {
+        let Some(before) = self.regs_of(thread) else {
             return Outcome::Ignored;
         };
         let Some(action) = self.action_of(signo) else {
             return Outcome::Ignored;
         };
-        if (regs.mask >> (signo - 1)) & 1 == 1 {
+        if (before.mask >> (signo - 1)) & 1 == 1 {
             return Outcome::Ignored;
         }
-        match self.deliver(&regs, &action, signo) {
-            Ok(at_handler) => {
-                self.set_regs(thread, &at_handler);
+        let mut regs = before;
+        match self.deliver(&mut regs, action, signo) {
+            Ok(()) => {
+                self.set_regs(thread, &regs);
                 Outcome::Ran
             }
-            Err(fault) => self.die(thread, &regs, fault),
+            Err(fault) => self.die(thread, &before, fault),
         }
     }
 }

@@ -5,11 +5,12 @@ ghost use Rattle.std.specs.Option.{is_none};
 ghost use Rattle.cet_machine.specs.Memory.{legal};
 ghost use Rattle.cet_machine.specs.Step.{step};
 ghost use Rattle.cet_machine.specs.Signal.{deliver};
-ghost use Rattle.cet_cpu.specs.Answer.{machine, after as after_call, ended as ended_step, OnFault, OnSyscall};
+ghost use Rattle.cet_cpu.specs.Answer.{machine, ended as ended_step, OnFault, OnSyscall};
 ghost use Rattle.cet_process.specs.State.{view, regs_of, action_of, with_thread};
 ghost use Rattle.cet_process.specs.Call.{is_writable, with_mapping, with_child, with_token, thread_limit};
 ghost use Rattle.cet_process.specs.After.{ended};
 ghost use Rattle.cet_signal.specs.Aligned.{IsAligned};
+ghost use Rattle.cet_signal.specs.Answer.{delivered};
 ghost use Rattle.cet_kernel.specs.Parts.{taken, appended, status_stored};
 
 use crate::calls::{Error, refused};
@@ -228,17 +229,18 @@ impl Process {
     /// Puts the frame of a signal on the stacks of a thread with these registers.
     pub(crate) fn deliver(
         &mut self,
-        regs: &Regs,
-        action: &Action,
+        regs: &mut Regs,
+        action: Action,
         signo: u32,
-    ) -> Result<Regs, Fault>
-        requires aligned { IsAligned regs.now }
+    ) -> Result<(), Fault>
+        requires aligned { IsAligned regs.old }
         requires from { 1 ≤ signo }
         requires to { signo ≤ 64 }
-        ensures does { after_call self.new.memory result ≡ deliver self.old.mode action.now signo (machine self.old.memory regs.now) }
+        ensures does { delivered result self.new.memory regs.new ≡ deliver self.old.mode action signo (machine self.old.memory regs.old) }
         ensures others { self.new ≡ record self.old { memory = self.new.memory } }
-        ensures unchanged { OnErr result (self.new ≡ self.old) }
-        ensures aligned { IfOk result IsAligned }
+        ensures fault_keeps_memory { OnErr result (self.new ≡ self.old) }
+        ensures fault_keeps_registers { OnErr result (regs.new ≡ regs.old) }
+        ensures aligned { IsAligned regs.new }
     {
         deliver(&mut self.memory, regs, self.mode, action, signo)
     }

@@ -1,3 +1,4 @@
 pub mod Aligned
+pub mod Answer
 pub mod Returned
 pub mod Room

@@ -4,6 +4,7 @@ ghost use Rattle.std.specs.Prelude.{◌≡◌, ◌≤◌, OnOk, OnErr, IfOk, IfE
 ghost use Rattle.cet_machine.specs.Signal.{at_handler, handler_mask, shadow_frame, deliver};
 ghost use Rattle.cet_cpu.specs.Answer.{machine, after};
 ghost use Rattle.cet_signal.specs.Aligned.{IsAligned};
+ghost use Rattle.cet_signal.specs.Answer.{delivered};
 ghost use Rattle.cet_signal.specs.Room.{HasRoom, IsRefused};
 
 use crate::frame::{FRAME_SIZE, bytes_of_words, frame, frame_address};
@@ -19,31 +20,35 @@ pub const SSP_MARK: u64 = 1 << 63;
 const SA_NODEFER_BIT: u32 = 30;
 
 /// Sends a thread to the handler of signal `signo`, 1 to 64: a page fault where no Write region holds the frame, or with SHSTK no Shadow region
-/// the two words. A fault leaves memory as it was, so all of them are looked for before anything is written.
+/// the two words. A fault leaves memory and registers as they were, so all of them are looked for before anything is written.
 #[tactic(auto, unfolding(cet_machine::specs::Signal::deliver))]
 pub fn deliver(
     mem: &mut Memory,
-    regs: &Regs,
+    regs: &mut Regs,
     mode: Mode,
-    action: &Action,
+    action: Action,
     signo: u32,
-) -> Result<Regs, Fault>
-    requires aligned { IsAligned regs.now }
+) -> Result<(), Fault>
+    requires aligned { IsAligned regs.old }
     requires from { 1 ≤ signo }
     requires to { signo ≤ 64 }
-    ensures does { after mem.new result ≡ deliver mode action.now signo (machine mem.old regs.now) }
-    ensures unchanged { OnErr result (mem.new ≡ mem.old) }
-    ensures aligned { IfOk result IsAligned }
+    ensures does { delivered result mem.new regs.new ≡ deliver mode action signo (machine mem.old regs.old) }
+    ensures fault_keeps_memory { OnErr result (mem.new ≡ mem.old) }
+    ensures fault_keeps_registers { OnErr result (regs.new ≡ regs.old) }
+    ensures aligned { IsAligned regs.new }
 {
     find_room(mem, regs, mode)?;
     let a = frame_address(value(regs, Reg::Rsp));
-    let bytes = bytes_of_words(&frame(action, signo, regs));
+    let bytes = bytes_of_words(&frame(&action, signo, regs));
     match mem.store_bytes(a, &bytes) {
         Ok(()) => {}
         Err(_) => return Err(Fault::Page { addr: a }),
     }
-    match shadow_frame(mem, *regs, mode, action) {
-        Ok(framed) => Ok(at_handler(mode, action, signo, a, framed)),
+    match shadow_frame(mem, *regs, mode, &action) {
+        Ok(framed) => {
+            *regs = at_handler(mode, &action, signo, a, framed);
+            Ok(())
+        }
         Err(fault) => Err(fault),
     }
 }

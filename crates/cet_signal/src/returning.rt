@@ -1,8 +1,9 @@
 //! The return from a handler: rt_sigreturn.
-ghost use Rattle.std.specs.Prelude.{◌≡◌, ◌%◌, IfOk};
+ghost use Rattle.std.specs.Prelude.{◌≡◌, ◌%◌, OnErr, IfOk};
 ghost use Rattle.cet_machine.specs.Signal.{returned_ssp, sigreturn};
 ghost use Rattle.cet_cpu.specs.Answer.{machine};
 ghost use Rattle.cet_signal.specs.Aligned.{IsAligned};
+ghost use Rattle.cet_signal.specs.Answer.{returned};
 
 use crate::delivery::SSP_MARK;
 use crate::frame::{FRAME_MARK, FRAME_SIZE, framed_regs, word_of};
@@ -10,13 +11,15 @@ use cet_cpu::value;
 use cet_isa::{Fault, Mode, Reg, Regs};
 use cet_mem::Memory;
 
-/// The registers that a signal's frame holds, of which the handler's RET has popped the first word: rt_sigreturn. A page fault where no one
-/// region holds the frame or no Shadow region the word at SSP, a general fault where the frame or the word is not marked.
+/// Gives a thread the registers of its signal's frame, of which the handler's RET has popped the first word: rt_sigreturn. A page fault where no one
+/// region holds the frame or no Shadow region the word at SSP, a general fault where the frame or the word is not marked. A fault leaves the
+/// registers as they were.
 #[tactic(auto, unfolding(cet_machine::specs::Signal::sigreturn))]
-pub fn sigreturn(mem: &Memory, regs: &Regs, mode: Mode) -> Result<Regs, Fault>
-    requires { IsAligned regs.now }
-    ensures value { result ≡ sigreturn mode (machine mem.now regs.now) }
-    ensures aligned { IfOk result IsAligned }
+pub fn sigreturn(mem: &Memory, regs: &mut Regs, mode: Mode) -> Result<(), Fault>
+    requires { IsAligned regs.old }
+    ensures does { returned result regs.new ≡ sigreturn mode (machine mem.now regs.old) }
+    ensures unchanged { OnErr result (regs.new ≡ regs.old) }
+    ensures aligned { IsAligned regs.new }
 {
     let a = value(regs, Reg::Rsp).wrapping_sub(8);
     let Some(bytes) = mem.bytes_at(a, FRAME_SIZE) else {
@@ -26,7 +29,10 @@ pub fn sigreturn(mem: &Memory, regs: &Regs, mode: Mode) -> Result<Regs, Fault>
         return Err(Fault::General);
     }
     match returned_ssp(mem, regs, mode) {
-        Ok(ssp) => Ok(framed_regs(mode, ssp, bytes)),
+        Ok(ssp) => {
+            *regs = framed_regs(mode, ssp, bytes);
+            Ok(())
+        }
         Err(fault) => Err(fault),
     }
 }

@@ -269,7 +269,7 @@ fn memory(alloc: Global) -> Result<Memory, MapError> {
     Ok(memory)
 }
 
-/// Signal 10, whose action has these flags. None where SSP is no multiple of 8.
+/// The registers at the handler of signal 10, whose action has these flags. None where SSP is no multiple of 8, or where a fault changed the registers.
 fn sent(memory: &mut Memory, regs: &Regs, mode: Mode, flags: u64) -> Option<Result<Regs, Fault>> {
     if regs.ssp % 8 != 0 {
         return None;
@@ -280,16 +280,29 @@ fn sent(memory: &mut Memory, regs: &Regs, mode: Mode, flags: u64) -> Option<Resu
         restorer: 0x40_1030,
         mask: 0x800,
     };
-    Some(deliver(memory, regs, mode, &action, 10))
+    let mut after = *regs;
+    match deliver(memory, &mut after, mode, action, 10) {
+        Ok(()) => Some(Ok(after)),
+        Err(fault) if after == *regs => Some(Err(fault)),
+        Err(_) => None,
+    }
 }
 
-/// The return, where the handler's RET left rsp and SSP so. None where SSP is no multiple of 8.
+/// The registers after the return, where the handler's RET left rsp and SSP so. None where SSP is no multiple of 8, or where a fault changed the registers.
 fn left(memory: &Memory, mode: Mode, rsp: u64, ssp: u64) -> Option<Result<Regs, Fault>> {
     if ssp % 8 != 0 {
         return None;
     }
-    let at_handler = with_value(AT_HANDLER, Reg::Rsp, rsp);
-    Some(sigreturn(memory, &Regs { ssp, ..at_handler }, mode))
+    let at_handler = Regs {
+        ssp,
+        ..with_value(AT_HANDLER, Reg::Rsp, rsp)
+    };
+    let mut after = at_handler;
+    match sigreturn(memory, &mut after, mode) {
+        Ok(()) => Some(Ok(after)),
+        Err(fault) if after == at_handler => Some(Err(fault)),
+        Err(_) => None,
+    }
 }
 
 /// The first word that is not as listed.
