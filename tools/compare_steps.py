@@ -19,6 +19,8 @@ from pathlib import Path
 
 TOP = Path(__file__).resolve().parent.parent
 TESTS = TOP / "crates/cet_cpu/src/tests"
+SINGLE = "widths", "operands", "results"
+FAULTING = "faults", "accesses"
 REGISTERS = "Rax Rcx Rdx Rbx Rsp Rbp Rsi Rdi R8 R9 R10 R11 R12 R13 R14 R15".split()
 CODE = 0x401000
 CF, ZF, SF, OF = 1, 2, 4, 8
@@ -104,10 +106,10 @@ def undefined(text, state):
 def cases():
     """Each row of one step: where it stands, its text and code; and if it is run, the states before and after, and its fault."""
     usual = operands()
-    for name in "widths", "faults", "data", "transfers":
+    for name in *SINGLE, *FAULTING, "data", "transfers", "features", "shadow_stack":
         for text, columns in rows(TESTS / f"{name}.rt"):
             code = bytes.fromhex(columns[0][2:-1].replace("\\x", ""))
-            if name in ("widths", "faults"):
+            if name in SINGLE + FAULTING:
                 mode, steps, before, end, after = "OFF", "1", usual + parts(columns[1]), "Next", []
             else:
                 mode, steps, before, end, after = columns[1], columns[2], parts(columns[3]), columns[4], parts(columns[5])
@@ -115,10 +117,10 @@ def cases():
                 continue
             run = mode == "OFF" and end != "Syscall" and not {"Waiting", "Ssp", "Rip"} & {part for part, _ in before}
             start, then = State(before), State(before)
-            if name == "widths":
+            if name in SINGLE:
                 then.rip += len(code)
                 then.change(parts(columns[2]))
-            elif name == "faults":
+            elif name in FAULTING:
                 end = f"Fault({columns[2]})"
             else:
                 then.change(after)

@@ -1,7 +1,12 @@
 //! Steps over raw code. The code is what GNU as makes of the text above a row; the states follow from the SDM's page of the instruction.
 //! Flags that an instruction leaves undefined come out clear.
+mod accesses;
 mod data;
 mod faults;
+mod features;
+mod operands;
+mod results;
+mod shadow_stack;
 mod transfers;
 mod widths;
 
@@ -67,6 +72,12 @@ type Single = (&'static [u8], &'static [Part], &'static [Part]);
 
 /// The code of one instruction, what is different before it, and the fault that it ends in.
 type Faulting = (&'static [u8], &'static [Part], Fault);
+
+/// How the last step of a row ends, the registers after it, and the first word that is not as it should be.
+type Outcome = (Option<StepEnd>, Regs, Option<u64>);
+
+/// The first row with another outcome than it should have: its code, and that outcome.
+type Other = Option<(&'static [u8], Outcome)>;
 
 /// The state before the instructions of `Single` and `Faulting`: a register for each width's sign, the address of a word, and one where words
 /// are loaded and not stored, and one where they are neither.
@@ -159,39 +170,103 @@ fn run(memory: &mut Memory, regs: &mut Regs, mode: Mode, steps: u32) -> Option<S
     }
 }
 
-/// The first word that is not as the parts have it.
-fn other_word(memory: &Memory, parts: &[Part]) -> Option<u64> {
-    for part in parts {
-        if let Part::Word(a, word) = part {
-            if memory.load(*a, 8) != Ok(*word) {
-                return Some(*a);
+/// The first word of the data or of the shadow stack that is not as in the other memory.
+fn other_word(memory: &Memory, expected: &Memory) -> Option<u64> {
+    for page in [DATA, SHADOW] {
+        for i in 0..512 {
+            let a = page | (8 * i);
+            if memory.load(a, 8) != expected.load(a, 8) {
+                return Some(a);
             }
         }
     }
     None
 }
 
+/// What so many steps from `start` make of pages with the code and `words`, where `changed` are the words that should be different after them.
+fn outcome(
+    alloc: Global,
+    code: &[u8],
+    (mode, steps): (Mode, u32),
+    start: Regs,
+    words: [&[Part]; 2],
+    changed: &[Part],
+) -> Result<Outcome, MapError> {
+    let mut memory = pages(alloc)?;
+    let mut expected = pages(alloc)?;
+    for parts in words {
+        fill(&mut memory, start.rip, code, parts);
+        fill(&mut expected, start.rip, code, parts);
+    }
+    fill(&mut expected, start.rip, &[], changed);
+    let mut regs = start;
+    let ended = run(&mut memory, &mut regs, mode, steps);
+    Ok((ended, regs, other_word(&memory, &expected)))
+}
+
+fn other_steps(alloc: Global, rows: &'static [Row]) -> Result<Other, MapError> {
+    for (code, mode, steps, before, end, after) in rows {
+        let start = with_parts(usual(), before);
+        let made = outcome(alloc, code, (*mode, *steps), start, [&[], before], after)?;
+        if made != (Some(*end), with_parts(start, after), None) {
+            return Ok(Some((*code, made)));
+        }
+    }
+    Ok(None)
+}
+
+fn other_single_steps(alloc: Global, rows: &'static [Single]) -> Result<Other, MapError> {
+    for (code, before, after) in rows {
+        let start = with_parts(with_parts(usual(), OPERANDS), before);
+        let next = Regs {
+            rip: start.rip.wrapping_add(code.len() as u64),
+            ..start
+        };
+        let made = outcome(alloc, code, (OFF, 1), start, [OPERANDS, before], after)?;
+        if made != (Some(StepEnd::Next), with_parts(next, after), None) {
+            return Ok(Some((*code, made)));
+        }
+    }
+    Ok(None)
+}
+
+fn other_faults(alloc: Global, rows: &'static [Faulting]) -> Result<Other, MapError> {
+    for (code, before, fault) in rows {
+        let start = with_parts(with_parts(usual(), OPERANDS), before);
+        let made = outcome(alloc, code, (OFF, 1), start, [OPERANDS, before], &[])?;
+        if made != (Some(StepEnd::Fault(*fault)), start, None) {
+            return Ok(Some((*code, made)));
+        }
+    }
+    Ok(None)
+}
+
 #[test]
 fn steps(rt: HostRuntime) {
+    for rows in [data::moves(), data::arithmetic(), data::stack()] {
+        let other = other_steps(rt.alloc(), rows).expect(&rt, "memory");
+        assert_eq!(rt; other, None);
+    }
+}
+
+#[test]
+fn transfer_steps(rt: HostRuntime) {
     for rows in [
-        data::moves(),
-        data::arithmetic(),
-        data::stack(),
         transfers::control(),
         transfers::tracker(),
         transfers::shadow(),
         transfers::programs(),
     ] {
-        for (code, mode, steps, before, end, after) in rows {
-            let start = with_parts(usual(), before);
-            let mut memory = pages(rt.alloc()).expect(&rt, "memory");
-            fill(&mut memory, start.rip, code, before);
-            let mut regs = start;
-            let ended = run(&mut memory, &mut regs, *mode, *steps);
-            assert_eq!(rt; ended, Some(*end), "the end of {code:?}");
-            assert_eq!(rt; regs, with_parts(start, after), "after {code:?}");
-            assert_eq!(rt; other_word(&memory, after), None, "after {code:?}");
-        }
+        let other = other_steps(rt.alloc(), rows).expect(&rt, "memory");
+        assert_eq!(rt; other, None);
+    }
+}
+
+#[test]
+fn feature_steps(rt: HostRuntime) {
+    for rows in [features::WAITING, features::TRANSFERS, shadow_stack::SHADOW] {
+        let other = other_steps(rt.alloc(), rows).expect(&rt, "memory");
+        assert_eq!(rt; other, None);
     }
 }
 
@@ -204,21 +279,29 @@ fn single_steps(rt: HostRuntime) {
         widths::stack(),
         widths::control(),
     ] {
-        for (code, before, after) in rows {
-            let start = with_parts(with_parts(usual(), OPERANDS), before);
-            let next = Regs {
-                rip: start.rip.wrapping_add(code.len() as u64),
-                ..start
-            };
-            let mut memory = pages(rt.alloc()).expect(&rt, "memory");
-            fill(&mut memory, start.rip, code, OPERANDS);
-            fill(&mut memory, start.rip, code, before);
-            let mut regs = start;
-            let ended = run(&mut memory, &mut regs, OFF, 1);
-            assert_eq!(rt; ended, Some(StepEnd::Next), "the end of {code:?}");
-            assert_eq!(rt; regs, with_parts(next, after), "after {code:?}");
-            assert_eq!(rt; other_word(&memory, after), None, "after {code:?}");
-        }
+        let other = other_single_steps(rt.alloc(), rows).expect(&rt, "memory");
+        assert_eq!(rt; other, None);
+    }
+}
+
+#[test]
+fn operand_steps(rt: HostRuntime) {
+    for rows in [operands::MOVES, operands::ARITHMETIC, operands::TESTS] {
+        let other = other_single_steps(rt.alloc(), rows).expect(&rt, "memory");
+        assert_eq!(rt; other, None);
+    }
+}
+
+#[test]
+fn result_steps(rt: HostRuntime) {
+    for rows in [
+        results::SHIFTS,
+        results::PRODUCTS,
+        results::CONDITIONS,
+        results::CONDITIONAL_MOVES,
+    ] {
+        let other = other_single_steps(rt.alloc(), rows).expect(&rt, "memory");
+        assert_eq!(rt; other, None);
     }
 }
 
@@ -231,15 +314,20 @@ fn faulting_steps(rt: HostRuntime) {
         faults::stack(),
         faults::control(),
     ] {
-        for (code, before, fault) in rows {
-            let start = with_parts(with_parts(usual(), OPERANDS), before);
-            let mut memory = pages(rt.alloc()).expect(&rt, "memory");
-            fill(&mut memory, start.rip, code, OPERANDS);
-            fill(&mut memory, start.rip, code, before);
-            let mut regs = start;
-            let ended = run(&mut memory, &mut regs, OFF, 1);
-            assert_eq!(rt; ended, Some(StepEnd::Fault(*fault)), "the end of {code:?}");
-            assert_eq!(rt; regs, start, "after {code:?}");
-        }
+        let other = other_faults(rt.alloc(), rows).expect(&rt, "memory");
+        assert_eq!(rt; other, None);
+    }
+}
+
+#[test]
+fn faulting_accesses(rt: HostRuntime) {
+    for rows in [
+        accesses::MOVES,
+        accesses::ARITHMETIC,
+        accesses::SHIFTS,
+        accesses::STACK,
+    ] {
+        let other = other_faults(rt.alloc(), rows).expect(&rt, "memory");
+        assert_eq!(rt; other, None);
     }
 }
