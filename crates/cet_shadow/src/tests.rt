@@ -703,8 +703,9 @@ fn restore_token_bits(rt: HostRuntime) {
 #[test]
 fn previous_token_bits(rt: HostRuntime) {
     for bit in 0..64u32 {
-        let word = 0x5103 ^ (1 << bit);
+        let word: u64 = 0x5103 ^ (1 << bit);
         let old = word & !3;
+        let at = old.wrapping_sub(8);
         let mut memory = pages(rt.alloc()).expect(&rt, "memory");
         let mut expected = pages(rt.alloc()).expect(&rt, "memory");
         fill(&mut memory, &[Word(0x4800, word)]);
@@ -712,10 +713,10 @@ fn previous_token_bits(rt: HostRuntime) {
         let answer = match bit {
             1 | 2 => Err(Gp),
             0 | 3..=12 => Ok(()),
-            _ => Err(Pf { addr: old - 8 }),
+            _ => Err(Pf { addr: at }),
         };
         if answer == Ok(()) {
-            fill(&mut expected, &[Word(old - 8, old | 1)]);
+            fill(&mut expected, &[Word(at, old | 1)]);
         }
         let mut ssp = 0x4800;
         let made = saveprevssp(&mut memory, &mut ssp, false);
