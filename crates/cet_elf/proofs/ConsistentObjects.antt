@@ -19,7 +19,7 @@ use Rattle.cet_elf.specs.ObjectSections.{is_kept, is_supported, support_faults, 
 use Rattle.cet_elf.specs.ObjectSymbols.{symbol_table, symbol_count, symbol_count_of, symbol_names, symbol_place, symbol_at, entry_count, entry_faults, symbol_faults, symbol_limit_faults, symbols_faults, is_supported_symbol, is_section_index, is_kept_symbol, kept_symbol, symbol_value, symbol_of, symbols_of, null_symbol, place_of}
 use Rattle.cet_elf.specs.ObjectRelocations.{relocations_faults}
 use Rattle.cet_elf.specs.ObjectFile.{object_faults, object_of, section_of, kept_section, sections_of}
-use Rattle.cet_elf.specs.Consistent.{KeepsLimits, IsPlaceAmong, IsConsistentSection, IsConsistentSymbol, IsConsistent}
+use Rattle.cet_elf.specs.Consistent.{HasNoZero, KeepsLimits, IsPlaceAmong, IsConsistentSection, IsConsistentSymbol, IsConsistent}
 use Rattle.cet_elf.proofs.FaultLemmas.{true-broken}
 use Rattle.cet_elf.proofs.TableLemmas.{none-front, none-back, HasSectionTable-from}
 use Rattle.cet_elf.proofs.BelowLemmas.{each-none}
@@ -100,7 +100,6 @@ unfolding section_of
 section_consistent b i h lt kept =
     let sections = sections_known b h in
     record {
-      name = HasNoZero-name (section_names b) (section b i).name;
       align = IsAlignment-kept b i kept (supported b i h lt);
       bytes = HasItsBytes-stored b i sections lt;
       relocations = relocations_consistent b i sections lt h.relocations;
@@ -112,6 +111,19 @@ sections_consistent b h =
     let P : Section → Type 0 = IsConsistentSection (length (symbols_of b)) in
     All-each P (section_count b) (kept_section b) (λ i lt. elim (cases_Bool (is_kept b i)) [
       | inl kept ↦ rw kept (All-cons P (section_of b i) [] (section_consistent b i h lt kept) (All-nil P))
+      | inr left ↦ rw left (All-nil P)
+    ])
+
+section_name : (b : List ℕ) (i : ℕ) → HasNoZero (section_of b i).name
+unfolding section_of
+section_name b i = HasNoZero-name (section_names b) (section b i).name
+
+pub section_names_hold_no_zero : (b : List ℕ) → All (λ (s : Section). HasNoZero s.name) (object_of b).sections
+unfolding object_of sections_of
+section_names_hold_no_zero b =
+    let P : Section → Type 0 = λ s. HasNoZero s.name in
+    All-each P (section_count b) (kept_section b) (λ i lt. elim (cases_Bool (is_kept b i)) [
+      | inl kept ↦ rw kept (All-cons P (section_of b i) [] (section_name b i) (All-nil P))
       | inr left ↦ rw left (All-nil P)
     ])
 
@@ -212,4 +224,4 @@ IsConsistent-from b none =
       symbols = symbols_consistent b h;
     }
 
-pub ruleset consistent = (IsConsistent-from)
+pub ruleset consistent = (IsConsistent-from, section_names_hold_no_zero)

@@ -227,7 +227,7 @@ section_of-is b o k h lt =
     let at = section-part b o k h lt in
     let is = sections-are o h.regular h.fits k lt in
     let name : name_at (section_names b) (section b (suc k)).name ≡ s.name =
-    ap (λ (t : SectionHeader). name_at (section_names b) t.name) at.header ∙ name_at-Named (section_names b) at.name s.name is.consistent.name at.named in
+    ap (λ (t : SectionHeader). name_at (section_names b) t.name) at.header ∙ name_at-Named (section_names b) at.name s.name is.name at.named in
     let class : class_of (section b (suc k)) ≡ s.class = class-is s.class (section b (suc k)) (ap (λ (t : SectionHeader). t.kind) at.header) (ap (λ (t : SectionHeader). t.flags) at.header) in
     let align : align_of (section b (suc k)) ≡ s.align = ap align_of at.header ∙ ap (λ (c : Bool). cond c 1 s.align) (align-is s.align is.consistent.align).2 in
     let size : (section b (suc k)).size ≡ s.size = ap (λ (t : SectionHeader). t.size) at.header in

@@ -8,7 +8,7 @@ use Rattle.cet_elf.specs.declared.object.Class.TheVariants as classes
 use Rattle.cet_elf.specs.declared.object.Section.{Section}
 use Rattle.cet_elf.specs.declared.object.Symbol.{Symbol}
 use Rattle.cet_elf.specs.declared.object.Object.{Object}
-use Rattle.cet_elf.specs.Consistent.{IsConsistentSection, HasItsBytes, IsAlignment}
+use Rattle.cet_elf.specs.Consistent.{HasNoZero, IsConsistentSection, HasItsBytes, IsAlignment}
 use Rattle.cet_elf.specs.ObjectSections.{is_alignment}
 use Rattle.cet_elf.specs.Regular.{IsRegular, FitsTypes, RelaFits}
 use Rattle.cet_elf.specs.Written.{Part, padded, stored, type_of, flags_of, is_local, locals_end, has_relocations, note_parts, symtab_number, parts}
@@ -18,6 +18,7 @@ use Rattle.cet_elf.proofs.Items.{Item, null, loaded, note, rela, symbols, string
 -- a section of the object
 pub record IsSectionOf (o : Object) (s : Section) : Type 0 where
   pub consistent : IsConsistentSection (length o.symbols) s
+  pub name : HasNoZero s.name
   pub no_group : s.class ≢ classes.Group
   pub zeros : s.class ≡ classes.Zero → s.relocations ≡ []
   pub size : s.size < 2 ^ 64
@@ -44,6 +45,7 @@ IsItem o names = Unit {0}
 pub sections-are : (o : Object) → IsRegular o → FitsTypes o → (k : ℕ) → k < length o.sections → IsSectionOf o (get_or o.sections k no_section)
 sections-are o regular fits k lt = record {
   consistent = All-get_or (IsConsistentSection (length o.symbols)) o.sections k no_section lt regular.consistent.sections;
+  name = All-get_or (λ s. HasNoZero s.name) o.sections k no_section lt regular.section_names;
   no_group = All-get_or (λ s. s.class ≢ classes.Group) o.sections k no_section lt regular.no_group;
   zeros = All-get_or (λ s. s.class ≡ classes.Zero → s.relocations ≡ []) o.sections k no_section lt regular.zeros;
   size = All-get_or (λ s. s.size < 2 ^ 64) o.sections k no_section lt fits.sections;

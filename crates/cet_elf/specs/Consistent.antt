@@ -36,7 +36,6 @@ pub record IsConsistentRela (symbols size : ℕ) (r : Rela) : Type 0 where
   pub field : IsTrue (is_field_inside r.kind r.offset size)
 
 pub record IsConsistentSection (symbols : ℕ) (s : Section) : Type 0 where
-  pub name : HasNoZero s.name
   pub align : IsAlignment s.align
   pub bytes : HasItsBytes s.class s.size s.bytes
   pub relocations : All (IsConsistentRela symbols (length s.bytes)) s.relocations

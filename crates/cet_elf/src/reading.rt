@@ -1,7 +1,7 @@
 //! Reading an object.
 
-ghost use Rattle.std.specs.Prelude.{◌≡◌, ◌<◌, ◌++◌, IfOk, IfErr};
-ghost use Rattle.cet_elf.specs.Consistent.{IsConsistent};
+ghost use Rattle.std.specs.Prelude.{◌≡◌, ◌<◌, ◌++◌, All, IfOk, IfErr};
+ghost use Rattle.cet_elf.specs.Consistent.{HasNoZero, IsConsistent};
 ghost use Rattle.cet_elf.specs.Faults.{IsFirst, Reads};
 ghost use Rattle.cet_elf.specs.Header.{section_count as count_of};
 ghost use Rattle.cet_elf.specs.Sections.{section_names as section_names_of, HasSections};
@@ -161,6 +161,8 @@ pub fn read_object(alloc: Global, bytes: &[u8]) -> Result<Object, ElfError>
     ensures fault { IfErr result (λ e. IsFirst e (object_faults bytes.now)) }
     // The object keeps what a link editor asks of its inputs.
     ensures consistent { IfOk result (λ o. IsConsistent o) }
+    // No name of a section holds a zero byte.
+    ensures section_names { IfOk result (λ o. All (λ s. HasNoZero s.name) o.sections) }
 {
     read_whole(alloc, bytes)
 }

@@ -1,7 +1,7 @@
 //! Objects that are written and read back. Offsets and values are those of the gABI's tables.
 ghost use Rattle.std.specs.Prelude.{◌≡◌, ◌≢◌, ◌+◌, ◌≤◌, ◌<◌, ◌^◌, IsTrue, All, Some, [], sum_by, count_by, slice_get, length};
 ghost use Rattle.cet_elf.specs.declared.object.Class.TheVariants as classes;
-ghost use Rattle.cet_elf.specs.Consistent.{IsConsistent};
+ghost use Rattle.cet_elf.specs.Consistent.{HasNoZero, IsConsistent};
 ghost use Rattle.cet_elf.specs.ObjectSymbols.{null_symbol};
 ghost use Rattle.cet_elf.specs.Regular.{IsRegular};
 ghost use Rattle.cet_elf.specs.Written.{has_relocations};
@@ -93,6 +93,7 @@ fn symbol_names_are_short(symbols: &[Symbol]) -> bool
 // Whether an object that was read is small and regular.
 fn is_regular(object: &Object) -> bool
     requires { IsConsistent object.now }
+    requires { All (λ s. HasNoZero s.name) object.now.sections }
     ensures { IsTrue result → IsRegular object.now }
 {
     let sections = object.sections.as_slice();

@@ -163,8 +163,7 @@ fn is_consistent_section(symbols: usize, section: &Section) -> bool
     ensures { IsTrue result → IsConsistentSection symbols section.now }
 {
     let relocations = section.relocations.as_slice();
-    has_no_zero(section.name.as_slice())
-        && is_alignment(section.align)
+    is_alignment(section.align)
         && has_its_bytes(section)
         && are_consistent_relas(symbols, section.bytes.len(), relocations)
 }

@@ -14,7 +14,8 @@ returns c = λ t.
     let count : s.class ≡ classes.Zero → length s.relocations ≡ 0 = search rules in
     let relocations : All (IsConsistentRela c.args.symbols (length s.bytes)) s.relocations = search rules in
     record {
-      consistent = record { name = name; align = (4, lit≤ tt, align); bytes = bytes; relocations = relocations };
+      consistent = record { align = (4, lit≤ tt, align); bytes = bytes; relocations = relocations };
+      name = name;
       no_group = no_group;
       zeros = λ zero. nil_from_length s.relocations (count zero);
     }
