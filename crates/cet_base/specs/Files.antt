@@ -1,4 +1,4 @@
--- Files by name: what they hold, what a read of a part gives, and what the replacement of a file leaves.
+-- Files by name, in this project's own terms: what they hold, what a read of a part gives, and what the replacement of a file leaves.
 use Rattle.std.specs.Prelude.{◌≡◌, ◌≢◌, ℕ, ◌<◌, List, length, take, drop, Option, Some, None, IsSomeAnd, ⊤}
 
 -- what the files hold: the bytes of the file of each name that is there. A name is the bytes of its text

@@ -1,4 +1,4 @@
--- Outputs: the bytes that were taken.
+-- Outputs, in this project's own terms: the bytes that were taken.
 use Rattle.std.specs.Prelude.{◌≡◌, ℕ, List, ◌++◌, take, Option, Some, None}
 
 -- the output gained the bytes of the piece at its end. None: the bytes taken are not told, before and after

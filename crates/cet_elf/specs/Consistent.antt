@@ -1,4 +1,4 @@
--- What every object keeps that a file gives: what a link editor asks of its inputs.
+-- What every object keeps that a file gives: what this project's link editor asks of its inputs.
 use Rattle.std.specs.Prelude.{◌≡◌, ℕ, ◌^◌, ◌<◌, ◌≤◌, IsTrue, List, [], length, All, Contains, sum_by}
 use Rattle.cet_elf.specs.declared.object.Object.{Object}
 use Rattle.cet_elf.specs.declared.object.Section.{Section}

@@ -1,4 +1,5 @@
--- The sections of an object: which are loaded, which is the note, which are kept, and what is not supported.
+-- The sections of an object: which are loaded, which is the note, which are kept, and what is not supported
+-- (gABI, "Sections"; psABI, "Special Sections").
 use Rattle.std.specs.Prelude.{ℕ, ◌==◌, ◌||◌, ◌&&◌, not, nat_lt, is_some, Bool, if◌then◌else◌, List, [], ◌∷◌, codes}
 use Rattle.std.specs.List.{list_any}
 use Rattle.cet_elf.specs.declared.error.ElfError.{ElfError}

@@ -1,4 +1,4 @@
--- The symbols of an object: the entries of its symbol table that are kept, as values.
+-- The symbols of an object: the entries of its symbol table that are kept, as values (gABI, "Symbol Table").
 use Rattle.std.specs.Prelude.{ℕ, ◌+◌, ◌*◌, ◌/◌, ◌==◌, ◌||◌, ◌&&◌, not, nat_lt, nat_le, Bool, if◌then◌else◌, List, [], ◌∷◌, ◌++◌, Option, Some, None}
 use Rattle.cet_elf.specs.declared.error.ElfError.{ElfError}
 use Rattle.cet_elf.specs.declared.error.ElfError.TheVariants.{Name, Unsupported, SymbolIndex, TooMany}

@@ -1,4 +1,4 @@
--- Which objects can be written: those that a file can hold, and that are read back as they were.
+-- Which objects can be written: those that a file can hold, and that are read back as they were. The rules are this project's own.
 use Rattle.std.specs.Prelude.{◌≡◌, ◌≢◌, ◌+◌, ◌^◌, ◌<◌, ◌≤◌, [], length, count_by, sum_by, Some, All, slice_get, FitsSigned}
 use Rattle.std.specs.Int.{w64}
 use Rattle.cet_elf.specs.declared.object.Class.TheVariants as classes

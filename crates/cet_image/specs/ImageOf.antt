@@ -1,4 +1,4 @@
--- The image of an executable, and when it has none; when raw code has none.
+-- The image of an executable, and when it has none; when raw code has none: this project's own, with the gABI's segments ("Program Loading").
 use Rattle.std.specs.Prelude.{◌≡◌, ℕ, ◌==◌, nat_lt, if◌then◌else◌, List, length, Option, Some, None}
 use Rattle.cet_elf.specs.declared.exec.Exec.{Exec}
 use Rattle.cet_rules.specs.declared.function.Function.{Function}

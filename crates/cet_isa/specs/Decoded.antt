@@ -1,4 +1,5 @@
--- The one form at the head of a list of bytes, found from left to right. The laws of `Law` tie it to `Form`.
+-- The one form at the head of a list of bytes, found from left to right (SDM volume 2, 2.1 and 2.2: prefixes, opcode, ModRM, SIB, displacement,
+-- immediate). The laws of `Law` tie it to `Form`.
 use Rattle.std.specs.Prelude.{ℕ, zero, suc, ◌-◌, Bool, false, ◌&&◌, ◌==◌, if◌then◌else◌, List, length, ℤ, pos, Option, Some, None, Result, Ok, Err}
 use Rattle.std.specs.Int.{w8, w32}
 use Rattle.cet_isa.specs.declared.register.Reg.{Reg}

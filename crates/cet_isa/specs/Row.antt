@@ -1,4 +1,4 @@
--- A row of the opcode map: what may follow an opcode byte, and which value it then is.
+-- A row of the opcode map (SDM volume 2, appendix A): what may follow an opcode byte, and which value it then is.
 use Rattle.std.specs.Prelude.{◌≡◌, ℕ, Bool, false, ◌&&◌, List, [], ◌∷◌, ◌++◌, ℤ, Option, IsTrue}
 use Rattle.std.specs.Int.{w8, w32}
 use Rattle.cet_isa.specs.declared.operand.Width.{Width}

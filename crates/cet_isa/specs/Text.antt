@@ -1,4 +1,4 @@
--- The text of an instruction value, as the assembler reads it and the listing prints it.
+-- The text of an instruction value, as the assembler reads it and the listing prints it: this project's own, with the mnemonics of SDM volume 2.
 use Rattle.std.specs.Prelude.{ℕ, zero, suc, Bool, if◌then◌else◌, List, [], ◌++◌, ℤ, pos, negsuc, Option, Some, None, codes}
 use Rattle.std.specs.Fmt.{decimal, signed_decimal}
 use Rattle.cet_isa.specs.declared.register.Reg.{Reg}

@@ -1,4 +1,4 @@
--- The numbers of errors.
+-- The numbers of errors (Linux, include/uapi/asm-generic/errno-base.h and errno.h).
 use Rattle.std.specs.Prelude.{ℕ}
 use Rattle.cet_process.specs.Call.{eperm, ebadf, eagain, enomem, efault, einval, enospc, enosys, eopnotsupp}
 use Rattle.cet_kernel.specs.declared.calls.Error.{Error}

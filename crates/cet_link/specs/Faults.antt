@@ -1,4 +1,5 @@
--- What is wrong with inputs whose notes were read, in the order in which it is looked for. The first fault counts.
+-- What is wrong with inputs whose notes were read, in the order in which it is looked for: this project's own, for the bindings the gABI's
+-- ("Symbol Table"). The first fault counts.
 use Rattle.std.specs.Prelude.{ℕ, ◌+◌, ◌-◌, ◌^◌, ◌&&◌, not, nat_le, nat_lt, is_none, Bool, true, false, if◌then◌else◌, List, [], ◌∷◌, ◌++◌, length, Option}
 use Rattle.std.specs.Option.{option_map_or}
 use Rattle.std.specs.List.{flat_map, list_any, find, sum_by}

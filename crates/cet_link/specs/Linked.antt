@@ -1,4 +1,4 @@
--- The executable that linking makes of its inputs and of their merged note.
+-- The executable that linking makes of its inputs and of their merged note: this project's own layout, with the gABI's segments ("Program Header").
 use Rattle.std.specs.Prelude.{ℕ, ◌+◌, ◌-◌, ◌==◌, ◌&&◌, not, Bool, true, false, if◌then◌else◌, List, [], ◌∷◌, ◌++◌, map, filter, replicate, Option, None, Some}
 use Rattle.std.specs.List.{filter_map}
 use Rattle.cet_elf.specs.declared.object.Class.{Class}

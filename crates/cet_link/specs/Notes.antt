@@ -1,4 +1,4 @@
--- The notes of the inputs, and those that cannot be read.
+-- The notes of the inputs, and those that cannot be read (psABI, "Program Property").
 use Rattle.std.specs.Prelude.{◌≡◌, ℕ, List, [], ◌∷◌, unwrap_or, Result, Ok, Err}
 use Rattle.std.specs.List.{flat_map, enumerate_from}
 use Rattle.cet_note.specs.Note.{Note}

@@ -1,4 +1,4 @@
--- What an image holds: its bytes by address, and its functions.
+-- What an image holds, its bytes by address and its functions: this project's own.
 use Rattle.std.specs.Prelude.{ℕ, ◌+◌, ◌-◌, ◌<◌, ◌≤◌, List, [], ◌∷◌, ◌++◌, length, take, drop, Bool, ◌&&◌, nat_le, nat_lt, ◌==◌, if◌then◌else◌, Option, slice_get, replicate, find}
 use Rattle.cet_rules.specs.declared.segment.Segment.{Segment}
 use Rattle.cet_rules.specs.declared.function.Function.{Function}

@@ -1,4 +1,4 @@
--- When each rule is broken, and where. A rule that is not here cannot be broken by the covered instructions.
+-- When each rule is broken, and where: this project's own. A rule that is not here cannot be broken by the covered instructions.
 use Rattle.std.specs.Prelude.{◌≡◌, ℕ, ℤ, Option, Some, None, ◌⊎◌, Contains}
 use Rattle.cet_rules.specs.declared.covered.Covered.TheVariants.{EndBr64, Jmp, JmpRax}
 use Rattle.cet_rules.specs.declared.function.Function.{Function}

@@ -1,4 +1,4 @@
--- What was delivered is returned, where the frame and the marked SSP were kept.
+-- What was delivered is returned, where the frame and the marked SSP were kept (Linux, Documentation/arch/x86/shstk.rst, "Signal").
 use Rattle.std.specs.Prelude.{◌≡◌, ℕ, ◌%◌, ◌^◌, ◌<◌, Bool, true, false, ◌&&◌, List, length, take, All, if◌then◌else◌, Option, Some, Ok}
 use Rattle.std.specs.Option.{option_map}
 use Rattle.cet_isa.specs.declared.register.Reg.TheVariants.{Rsp}

@@ -124,5 +124,3 @@ operand_of cs =
     if begins cs (codes "$") then option_map operand.Relative (number_of (drop 1 cs)) else
     option_or (option_map (λ r. operand.Place (place.Reg r)) (register_of cs))
     (option_or (option_map operand.Constant (constant_of cs)) (option_map operand.Name (name_of cs)))
-
--- operands parted by commas, with spaces on both sides of a comma at will

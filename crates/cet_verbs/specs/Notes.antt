@@ -1,4 +1,4 @@
--- Property notes in files, and the text that is printed of them.
+-- Property notes in files, and the text that is printed of them, which is this project's own.
 use Rattle.std.specs.Prelude.{◌≡◌, ℕ, ◌==◌, ◌&&◌, IsTrue, nat_eq, Bool, true, false, List, [], ◌∷◌, ◌++◌, map, codes, Option, unwrap_or, Vec, ◌⊎◌}
 use Rattle.std.specs.List.{flat_map, starts_with}
 use Rattle.std.specs.Global.{Global}
