@@ -1,16 +1,18 @@
 -- An object that was read keeps what a link editor asks.
-use Rattle.std.proofs.Common.{◌≡◌, ℕ, ◌+◌, ◌≤◌, ◌<◌, Bool, true, false, eqb, ltb, leb, not, ◌||◌, List, [], ◌++◌, length, All, Option, Some, None, inl, inr, refl, arith}
-use Rattle.std.specs.Prelude.{if◌then◌else◌, ◌==◌, sum_by}
+use Rattle.std.proofs.Common.{◌≡◌, ℕ, ◌+◌, ◌≤◌, ◌<◌, Bool, true, false, eqb, ltb, leb, not, ◌||◌, List, [], ◌++◌, length, All, Option, Some, None, Result, Ok, Err, inl, inr, refl, sym, subst, arith}
+use Rattle.std.specs.Prelude.{if◌then◌else◌, ◌==◌, IfOk, sum_by}
 use Rattle.std.proofs.lemmas.Bool.{cases_Bool, leb-true, ltb-true}
 use Rattle.std.proofs.lemmas.List.Elements.{All-nil, All-cons}
+use Rattle.cet_elf.specs.declared.error.ElfError.{ElfError}
 use Rattle.cet_elf.specs.declared.error.ElfError.TheVariants.{Magic, Class, Bounds, TooMany, Name, Unsupported, SymbolIndex}
 use Rattle.cet_elf.specs.declared.entries.SymbolEntry.{SymbolEntry}
+use Rattle.cet_elf.specs.declared.object.Object.{Object}
 use Rattle.cet_elf.specs.declared.object.Section.{Section}
 use Rattle.cet_elf.specs.declared.object.Symbol.{Symbol}
 use Rattle.cet_elf.specs.declared.object.SymbolPlace.TheVariants as places
 use Rattle.cet_elf.specs.Below.{each_below, count_below}
 use Rattle.cet_elf.specs.Fields.{byte, word}
-use Rattle.cet_elf.specs.Faults.{broken}
+use Rattle.cet_elf.specs.Faults.{Reads, broken}
 use Rattle.cet_elf.specs.Header.{section_count, ident_faults, kind_faults, table_faults, header_faults, HasSectionTable}
 use Rattle.cet_elf.specs.Sections.{section, section_place, section_names, place_faults, name_faults, sections_faults, HasSections}
 use Rattle.cet_elf.specs.StringTable.{has_name}
@@ -118,7 +120,7 @@ section_name : (b : List ℕ) (i : ℕ) → HasNoZero (section_of b i).name
 unfolding section_of
 section_name b i = HasNoZero-name (section_names b) (section b i).name
 
-pub section_names_hold_no_zero : (b : List ℕ) → All (λ (s : Section). HasNoZero s.name) (object_of b).sections
+section_names_hold_no_zero : (b : List ℕ) → All (λ (s : Section). HasNoZero s.name) (object_of b).sections
 unfolding object_of sections_of
 section_names_hold_no_zero b =
     let P : Section → Type 0 = λ s. HasNoZero s.name in
@@ -224,4 +226,8 @@ IsConsistent-from b none =
       symbols = symbols_consistent b h;
     }
 
-pub ruleset consistent = (IsConsistent-from, section_names_hold_no_zero)
+pub names-of-read : (b : List ℕ) (r : Result Object ElfError) → Reads (λ o. o) r (object_faults b) (object_of b) → IfOk r (λ o. All (λ (s : Section). HasNoZero s.name) o.sections)
+names-of-read b (Ok o) h = subst (λ (x : Object). All (λ (s : Section). HasNoZero s.name) x.sections) (sym h.1) (section_names_hold_no_zero b)
+names-of-read b (Err e) h = tt
+
+pub ruleset consistent = (IsConsistent-from)

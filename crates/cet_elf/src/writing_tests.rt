@@ -92,8 +92,8 @@ fn symbol_names_are_short(symbols: &[Symbol]) -> bool
 
 // Whether an object that was read is small and regular.
 fn is_regular(object: &Object) -> bool
-    requires { IsConsistent object.now }
-    requires { All (λ s. HasNoZero s.name) object.now.sections }
+    requires consistent { IsConsistent object.now }
+    requires section_names { All (λ s. HasNoZero s.name) object.now.sections }
     ensures { IsTrue result → IsRegular object.now }
 {
     let sections = object.sections.as_slice();

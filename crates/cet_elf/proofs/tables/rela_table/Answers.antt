@@ -1,4 +1,4 @@
-use Rattle.std.proofs.Common.{◌≡◌, ◌<◌, ◌++◌, ◌∙◌, ap, sym, [], length, get_or, take, All}
+use Rattle.std.proofs.Common.{◌++◌, ◌∙◌, ap, sym, [], get_or, take}
 use Rattle.std.specs.List.{flat_map}
 use Rattle.std.specs.Int.{w64, cast_signed}
 use Rattle.std.proofs.lemmas.List.{flat_map_more, take_more}
