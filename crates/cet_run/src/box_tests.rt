@@ -3,7 +3,7 @@
 ghost use Rattle.std.specs.Prelude.{None};
 
 use crate::example_tests::{Few, Script};
-use crate::tests::{CALLS, process};
+use crate::tests::{CALLS, TWO_THREADS, process};
 use crate::{Event, Outcome, Report, RunEnd, run};
 use bitflags::Flags;
 use cet_choosers::{Chooser, Counter, RoundRobin, Watcher};
@@ -185,6 +185,49 @@ fn choices(rt: HostRuntime) -> Result<(), Fail> {
         assert_eq!(rt; ignored(&report), *ignored_ones);
         assert_eq!(rt; report.last, *last);
     }
+    Ok(())
+}
+
+const fn step_of(thread: u32) -> Event {
+    Event::Step {
+        thread,
+        free: 0,
+        answer: 0,
+    }
+}
+
+// Four steps of the caller, nine of its child, which then has ended, and two more of the child.
+const CHILD_FIRST: &[Event] = &[
+    step_of(0),
+    step_of(0),
+    step_of(0),
+    step_of(0),
+    step_of(1),
+    step_of(1),
+    step_of(1),
+    step_of(1),
+    step_of(1),
+    step_of(1),
+    step_of(1),
+    step_of(1),
+    step_of(1),
+    step_of(1),
+    step_of(1),
+];
+
+// A chooser goes on to name a thread that has ended; the next one then steps the thread that lives.
+#[test]
+fn an_ended_thread(rt: HostRuntime) -> Result<(), Fail> {
+    let process = process(rt.alloc(), TWO_THREADS, Features::empty())?;
+    let events = Vec::from_slice(rt.alloc(), CHILD_FIRST)?;
+    let mut choosers: Vec<Box<dyn Chooser>> = Vec::new(rt.alloc());
+    choosers.push(Box::new(rt.alloc(), Script { events, next: 0 })?)?;
+    choosers.push(Box::new(rt.alloc(), RoundRobin::new())?)?;
+    let mut watchers: Vec<Box<dyn Watcher>> = Vec::new(rt.alloc());
+    let report = run(rt.alloc(), process, &[], choosers, &mut watchers, 99)?;
+    assert_eq!(rt; report.events.len(), 24);
+    assert_eq!(rt; ignored(&report), 2);
+    assert_eq!(rt; report.last, RunEnd::Ended { status: 2 });
     Ok(())
 }
 

@@ -130,7 +130,7 @@ const WRITES: &[u8] =
 
 // mov eax, 56; mov edi, 0x50f00; mov esi, 1; syscall; mov ebx, eax; lea rsi, [rax+0x401000]; mov edi, 1; mov edx, 1; mov eax, 1; syscall;
 // mov edi, ebx; mov eax, 60; syscall: two threads, each of which writes one byte of the code and ends with what clone answered it
-const TWO_THREADS: &[u8] =
+pub(crate) const TWO_THREADS: &[u8] =
     b"\xb8\x38\x00\x00\x00\xbf\x00\x0f\x05\x00\xbe\x01\x00\x00\x00\x0f\x05\x89\xc3\x48\x8d\xb0\x00\x10\x40\x00\xbf\x01\x00\x00\x00\xba\x01\x00\x00\x00\xb8\x01\x00\x00\x00\x0f\x05\x89\xdf\xb8\x3c\x00\x00\x00\x0f\x05";
 
 // 1: jmp 1b

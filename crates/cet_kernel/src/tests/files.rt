@@ -22,6 +22,7 @@ pub static ROWS: &[Row] = &[
             Call(0, 7, &[59], ENOSYS),
             Call(0, 7, &[452], ENOSYS),
             Call(0, 7, &[454], ENOSYS),
+            Call(0, 7, &[0x1_0000_0018], ENOSYS),
             Call(0, 7, &[u64::MAX], ENOSYS),
             Threads(1, 1),
         ],

@@ -274,6 +274,24 @@ pub static ROWS: &[Row] = &[
             ),
         ],
     ),
+    // the same without shadow stacks, which map nothing
+    (
+        1,
+        b"",
+        &[
+            Call(0, 0, &[13, 10, 0x401270, 0, 8], 0),
+            Signals(0, 10, 1),
+            Steps(0, 315),
+            Thread(0, Reg(Rax, 64)),
+            Threads(64, u64::MAX),
+            Fresh(0x1_0000_0000),
+            Thread(63, Ssp(0)),
+            Steps(0, 5),
+            Thread(0, Reg(Rax, EAGAIN)),
+            Threads(64, u64::MAX),
+            Gone(64),
+        ],
+    ),
     // a fault: all stays as it was before the SYSCALL
     (
         3,
