@@ -188,31 +188,22 @@ fn choices(rt: HostRuntime) -> Result<(), Fail> {
     Ok(())
 }
 
-const fn step_of(thread: u32) -> Event {
-    Event::Step {
-        thread,
-        free: 0,
-        answer: 0,
-    }
-}
+const CALLER: Event = Event::Step {
+    thread: 0,
+    free: 0,
+    answer: 0,
+};
+
+const CHILD: Event = Event::Step {
+    thread: 1,
+    free: 0,
+    answer: 0,
+};
 
 // Four steps of the caller, nine of its child, which then has ended, and two more of the child.
 const CHILD_FIRST: &[Event] = &[
-    step_of(0),
-    step_of(0),
-    step_of(0),
-    step_of(0),
-    step_of(1),
-    step_of(1),
-    step_of(1),
-    step_of(1),
-    step_of(1),
-    step_of(1),
-    step_of(1),
-    step_of(1),
-    step_of(1),
-    step_of(1),
-    step_of(1),
+    CALLER, CALLER, CALLER, CALLER, CHILD, CHILD, CHILD, CHILD, CHILD, CHILD, CHILD, CHILD, CHILD,
+    CHILD, CHILD,
 ];
 
 // A chooser goes on to name a thread that has ended; the next one then steps the thread that lives.

@@ -157,7 +157,7 @@ fn runs(rt: HostRuntime) -> Result<(), Fail> {
         free: 0,
         answer: 0,
     };
-    let rows: [(&[u8], bool, &[Event], u32, &str); 18] = [
+    let rows: [(&[u8], bool, &[Event], u32, &str); 20] = [
         (
             CALLS,
             false,
@@ -299,6 +299,22 @@ fn runs(rt: HostRuntime) -> Result<(), Fail> {
             &[],
             9,
             "events 3 ignored 0\noutput -\ndied thread 0 cp 4 at 0x40100b word 0x401005\n",
+        ),
+        // mov eax, 15; syscall, where no frame has room
+        (
+            b"\xb8\x0f\x00\x00\x00\x0f\x05",
+            true,
+            &[],
+            9,
+            "events 2 ignored 0\noutput -\ndied thread 0 pf at 0x401005 addr 0x7ffe000fffb8\n",
+        ),
+        // mov eax, 13; mov edi, 10; mov esi, 1f; mov r10d, 8; mov esp, 0x1000; syscall; 1: .quad 0x401000, 0x04000000: a signal without a stack
+        (
+            b"\xb8\x0d\x00\x00\x00\xbf\x0a\x00\x00\x00\xbe\x1c\x10\x40\x00\x41\xba\x08\x00\x00\x00\xbc\x00\x10\x00\x00\x0f\x05\x00\x10\x40\x00\x00\x00\x00\x00\x00\x00\x00\x04\x00\x00\x00\x00",
+            false,
+            &[step, step, step, step, step, step, signal],
+            9,
+            "events 7 ignored 0\noutput -\ndied thread 0 pf at 0x40101c addr 0xea8\n",
         ),
     ];
     for (code, cet, given, limit, text) in rows {
