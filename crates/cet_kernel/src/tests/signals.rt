@@ -74,7 +74,13 @@ pub static ROWS: &[Row] = &[
             Call(0, 0, &[13, 9, PLAIN, 0, 8], EINVAL),
             Call(0, 0, &[13, 19, PLAIN, 0, 8], EINVAL),
             Call(0, 0, &[13, 9, 0, 0, 8], EINVAL),
+            Call(0, 0, &[13, 0x1_0000_000a, PLAIN, 0, 8], EINVAL),
             Call(0, 0, &[13, 10, 0, PLAIN, 8], EINVAL),
+            // arguments before the record, and before none of it
+            Call(0, 0, &[13, 10, 0, 0, 7], EINVAL),
+            Call(0, 0, &[13, 10, 1, 0, 7], EINVAL),
+            Call(0, 0, &[13, 65, 1, 0, 8], EINVAL),
+            Call(0, 0, &[13, 10, 1, PLAIN, 8], EINVAL),
             Call(0, 0, &[13, 10, 0, 0, 8], 0),
             Call(0, 0, &[13, 10, 1, 0, 8], EFAULT),
             Call(0, 0, &[13, 10, STACK_END - 31, 0, 8], EFAULT),
@@ -92,6 +98,8 @@ pub static ROWS: &[Row] = &[
                 Ignored,
             ),
             Call(0, 0, &[13, 1, PLAIN, 0, 8], 0),
+            // a refusal leaves the action
+            Call(0, 0, &[13, 1, NO_RESTORER, 0, 8], EINVAL),
             Call(0, 0, &[13, 64, MASKS_12, 0, 8], 0),
             Call(0, 0, &[13, 64, 0, 0, 8], 0),
             Apply(
@@ -223,6 +231,10 @@ pub static ROWS: &[Row] = &[
             Call(0, 0, &[13, 10, PLAIN, 0, 8], 0),
             Call(0, 0, &[13, 12, NO_DEFER, 0, 8], 0),
             Interrupted(0, 10, 13),
+            Thread(0, Rip(CALL)),
+            // and at the SYSCALL
+            Signals(0, 10, 1),
+            Steps(0, 4),
             Thread(0, Rip(CALL)),
             Call(0, 0, &[24], 0),
             Steps(0, 2),

@@ -114,7 +114,11 @@ pub static ROWS: &[Row] = &[
         &[
             Call(0, 0x1_0000_0000, &[56, 0x5_0f01, STACK], EINVAL),
             Call(0, 0x1_0000_0000, &[56, 0, STACK], EINVAL),
+            Call(0, 0x1_0000_0000, &[56, 0x1_0005_0f00, STACK], EINVAL),
             Call(0, 0x1_0000_0000, &[56, FLAGS, 0], EINVAL),
+            // arguments before the place
+            Call(0, 0, &[56, 0, STACK], EINVAL),
+            Call(0, 0, &[56, FLAGS, 0], EINVAL),
             Call(0, 0, &[56, FLAGS, STACK], ENOMEM),
             Call(0, 0x7ffd_0001_0000, &[56, FLAGS, STACK], ENOMEM),
             Threads(1, 1),
@@ -233,6 +237,7 @@ pub static ROWS: &[Row] = &[
         b"",
         &[
             Call(0, 0, &[13, 10, 0x401270, 0, 8], 0),
+            Call(0, 0, &[13, 12, 0x4011f0, 0, 8], 0),
             Signals(0, 10, 1),
             Steps(0, 1),
             Thread(0, Rip(CLONES + 4)),
@@ -272,6 +277,17 @@ pub static ROWS: &[Row] = &[
                 },
                 Ignored,
             ),
+            // EINVAL, and not EAGAIN
+            Signals(0, 12, 1),
+            Call(0, 0, &[56, 0, STACK], EINVAL),
+            Call(0, 0, &[56, FLAGS, 0], EINVAL),
+            Call(0, 0x1_0100_0000, &[56, FLAGS, STACK], EAGAIN),
+            // one that has ended makes no room
+            End(0, &[60], Ran),
+            Gone(0),
+            Steps(1, 5),
+            Thread(1, Reg(Rax, EAGAIN)),
+            Threads(64, u64::MAX - 1),
         ],
     ),
     // the same without shadow stacks, which map nothing
