@@ -75,12 +75,16 @@ fn texts(rt: HostRuntime) -> Result<(), Fail> {
 
 #[test]
 fn wrong_lines(rt: HostRuntime) -> Result<(), Fail> {
-    let rows: [(&str, (u32, bool)); 48] = [
+    let rows: [(&str, (u32, bool)); 52] = [
         ("s 0 16 0\n", (1, false)),
         ("s 0 0 0", (1, false)),
         (" ", (1, false)),
         ("\n\ns", (3, false)),
         ("\ns 0 0 0\ng 0 10", (3, false)),
+        ("x 1 0", (1, false)),
+        ("x 1000000 0", (1, false)),
+        ("x 1000001 0", (1, false)),
+        ("x 1000000 0\nx 1 0", (2, false)),
         ("\r\n", (1, false)),
         ("s 0 0 0\r\n", (1, false)),
         (" s 0 0 0\n", (1, false)),
