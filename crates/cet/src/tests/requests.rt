@@ -31,7 +31,7 @@ fn shown(alloc: Global, words: &[&str]) -> Result<String, Fail> {
 // The columns: the words, and what they ask for.
 #[test]
 fn requests(rt: HostRuntime) -> Result<(), Fail> {
-    let rows: [(&[&str], &str); 66] = [
+    let rows: [(&[&str], &str); 68] = [
         // No verb, none of the verbs, and no help.
         (&[], "refused"),
         (&[""], "refused"),
@@ -105,6 +105,11 @@ fn requests(rt: HostRuntime) -> Result<(), Fail> {
         (
             &["run", "--input", "i", "a", "--schedule=s"],
             "run false Some(\"s\") Some(\"i\") 1000000 [a]",
+        ),
+        (&["run", "--limit", "1", "a"], "run false None None 1 [a]"),
+        (
+            &["run", "--limit", "1000000", "a"],
+            "run false None None 1000000 [a]",
         ),
         (&["run", "--limit", "0", "a"], "refused"),
         (&["run", "--limit", "01", "a"], "refused"),

@@ -307,6 +307,9 @@ fn executable(alloc: Global, programs: &[Program]) -> Result<Vec<u8>, NoMemory> 
 // The features IBT and SHSTK.
 const NOTE: &[u8] = b"\x04\0\0\0\x10\0\0\0\x05\0\0\0GNU\0\x02\0\0\xc0\x04\0\0\0\x03\0\0\0\0\0\0\0";
 
+// mov edi, 0x401000; mov [rdi], eax
+const STORES_CODE: &[u8] = b"\xbf\x00\x10\x40\0\x89\x07";
+
 // mov edi, 0x402ff8; mov [rdi], eax; mov edi, 0; mov eax, 231; syscall
 const STORES: &[u8] = b"\xbf\xf8\x2f\x40\0\x89\x07\xbf\0\0\0\0\xb8\xe7\0\0\0\x0f\x05";
 
@@ -350,6 +353,13 @@ const ROWS: &[Row] = &[
             (LOAD, 0x402ff0, 16, 4, b""),
         ],
         out: "events 2 ignored 0\noutput -\ndied thread 0 pf at 0x401005 addr 0x402ff8\n",
+        err: "",
+        status: 1,
+    },
+    // A segment that may be executed and written is code.
+    Row {
+        programs: &[(LOAD, 0x401000, 7, 7, STORES_CODE)],
+        out: "events 2 ignored 0\noutput -\ndied thread 0 pf at 0x401005 addr 0x401000\n",
         err: "",
         status: 1,
     },
@@ -414,6 +424,28 @@ const ROWS: &[Row] = &[
         programs: &[(LOAD, 0x401000, 16, 5, CALLS), (LOAD, 0x401010, 1, 4, b"")],
         out: "",
         err: "cet: bad a at 0x401000: shared\n",
+        status: 6,
+    },
+    // Of two pairs that of the earlier first segment, and out of place goes before both.
+    Row {
+        programs: &[
+            (LOAD, 0x401000, 13, 5, CALLS),
+            (LOAD, 0x403000, 1, 4, b""),
+            (LOAD, 0x403800, 1, 4, b""),
+            (LOAD, 0x401800, 1, 4, b""),
+        ],
+        out: "",
+        err: "cet: bad a at 0x401000: shared\n",
+        status: 6,
+    },
+    Row {
+        programs: &[
+            (LOAD, 0x401000, 13, 5, CALLS),
+            (LOAD, 0x401800, 1, 4, b""),
+            (LOAD, 0x800, 1, 4, b""),
+        ],
+        out: "",
+        err: "cet: bad a at 0x800: place\n",
         status: 6,
     },
     Row {
